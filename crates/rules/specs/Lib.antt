@@ -1,0 +1,16 @@
+pub mod Lists
+pub mod Numbers
+pub mod State
+pub mod Items
+pub mod Rule
+pub mod Steps
+pub mod Choice
+pub mod Scheduler
+pub mod Requests
+pub mod SetUp
+pub mod Packing
+pub mod Soundness
+pub mod Calls
+pub mod Touched
+pub mod BenchSheet
+pub mod Claims

@@ -1,0 +1,1 @@
+// The rules are definitions: see specs/. No function stands here.
