@@ -1,15 +1,17 @@
 -- What is claimed of the rules, as types, a sentence each. The proofs stand elsewhere, each under the name given here.
 use Prim.Native.Nat.{ℕ, _≤_}
 use mathlib.Core.Path.{_≡_}
+use mathlib.Core.Bool.{Bool, true}
 use mathlib.Core.List.{List, [], _∷_, List·Memᴰ}
 use mathlib.Core.Logic.{_↔_}
 use lib.Dec.{T}
 use Rattle.rules.specs.Lists.{member}
 use Rattle.rules.specs.State.{State}
 use Rattle.rules.specs.Items.{Item}
+use Rattle.rules.specs.Requests.{send, receive, choose, yield, end}
 use Rattle.rules.specs.Packing.{pack, view}
-use Rattle.rules.specs.Soundness.{valid, sound}
-use Rattle.rules.specs.Calls.{Result, Ask, call, Built, set-up-call}
+use Rattle.rules.specs.Soundness.{word32, valid, sound}
+use Rattle.rules.specs.Calls.{Result, Ask, the-step, a-request, call, Built, set-up-call}
 use Rattle.rules.specs.Touched.{touched}
 
 -- Packing
@@ -43,10 +45,19 @@ pub record RefusalWritesNothing : Type 0 where
       → (call t answer k ask .answer ≡ answer) × (call t answer k ask .table ≡ t)
   pub set-up : (k n m : ℕ) (pairs t : List ℕ) → 20 ≤ set-up-call k n m pairs t .number → set-up-call k n m pairs t .table ≡ t
 
+-- "Values sent are any 32-bit number." The exports take no other; the claims below speak of such asks.
+abbrev pub sends-word : Ask → Bool
+sends-word the-step = true
+sends-word (a-request (send c v)) = word32 v
+sends-word (a-request (receive c)) = true
+sends-word (a-request (choose gs)) = true
+sends-word (a-request yield) = true
+sends-word (a-request end) = true
+
 -- `stays-sound`: "Every accepted call on a sound table leaves it sound"; a refused one leaves the table as it was, so every call does.
 -- An accepted set-up leaves a sound table whatever the table held.
 pub record StaysSound : Type 0 where
-  pub calls : (t answer : List ℕ) (k : ℕ) (ask : Ask) → T (sound t) → T (sound (call t answer k ask .table))
+  pub calls : (t answer : List ℕ) (k : ℕ) (ask : Ask) → T (sends-word ask) → T (sound t) → T (sound (call t answer k ask .table))
   pub set-up : (k n m : ℕ) (pairs t : List ℕ) → set-up-call k n m pairs t .number ≡ 0 → T (sound (set-up-call k n m pairs t .table))
 
 -- Strength of the promises
@@ -94,6 +105,6 @@ pub record Commute (t : List ℕ) (c d : Call) : Type 0 where
 -- table in either order." "A call's list is read off the table before either call." Refused calls are included.
 abbrev pub EitherOrder : Type 0
 EitherOrder =
-    (t : List ℕ) (c d : Call) → T (sound t) → (c .core ≡ d .core → ⊥)
+    (t : List ℕ) (c d : Call) → T (sends-word (c .ask)) → T (sends-word (d .ask)) → T (sound t) → (c .core ≡ d .core → ⊥)
     → Apart (touched (view t) (c .core) (c .ask)) (touched (view t) (d .core) (d .ask))
     → Commute t c d
