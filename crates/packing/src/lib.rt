@@ -1,0 +1,1 @@
+// Laws of the packing: see proofs/. No function stands here.
