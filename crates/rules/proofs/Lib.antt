@@ -1,1 +1,2 @@
 pub mod BenchSheet
+pub mod Frame
