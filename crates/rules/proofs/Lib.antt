@@ -1,2 +1,3 @@
 pub mod BenchSheet
 pub mod Frame
+pub mod Within
