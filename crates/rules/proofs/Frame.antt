@@ -306,12 +306,14 @@ accepted-wiring r s t a e = subst (Wired (wiring s)) e (run-wiring r s)
 abbrev pub Disjoint : (P Q : Kind → ℕ → Type 0) → Type 0
 Disjoint P Q = (k : Kind) (n : ℕ) → P k n → Q k n → ⊥
 
--- after an accepted rule, a rule that has no item in common with it comes to what it came to before
-after : {A B : Type 0} {P Q : Kind → ℕ → Type 0} (r : Rule A) (q : Rule B) (s t : State) (a : A) (y : Ran B)
-    → Disjoint P Q → Within P r s → Within Q q s → run r s ≡ accepted a t → run q s ≡ y → Alike Q s t y (run q t)
+-- After an accepted rule, a rule that has no item in common with it comes to what it came to before, also where it is taken anew at
+-- the wiring of the state that it meets.
+after : {A B : Type 0} {P Q : Kind → ℕ → Type 0} (r : Rule A) (q : Wiring → Rule B) (s t : State) (a : A) (y : Ran B)
+    → Disjoint P Q → Within P r s → Within Q (q (wiring s)) s → run r s ≡ accepted a t → run (q (wiring s)) s ≡ y
+    → Alike Q s t y (run (q (wiring t)) t)
 after {P = P} {Q = Q} r q s t a y apart in-P in-Q e f =
-    subst (λ z. Alike Q s t z (run q t)) f
-    (frame Q q s t in-Q (record { wired = sym (accepted-wiring r s t a e); alike = λ k n h. go k n h (run-keeps P r s t a in-P e k n) }))
+    subst₂ (λ z w. Alike Q s t z (run (q w) t)) f (sym (accepted-wiring r s t a e))
+    (frame Q (q (wiring s)) s t in-Q (record { wired = sym (accepted-wiring r s t a e); alike = λ k n h. go k n h (run-keeps P r s t a in-P e k n) }))
   where
     go : (k : Kind) (n : ℕ) → Q k n → P k n ⊎ (get k s n ≡ get k t n) → get k s n ≡ get k t n
     go k n h (inl g) = absurd (apart k n g h)
@@ -335,30 +337,36 @@ one-end {P = P} {Q = Q} {s = s} {t = t} {u = u} apart w first second =
     go k n (inr f) (inr e) (inr p) (inl g) = sym e ∙ second .agrees .alike k n g
     go k n (inr f) (inr e) (inr p) (inr q) = sym e ∙ sym q ∙ p ∙ f
 
-module _ {A B : Type 0} (r : Rule A) (q : Rule B) where
-  -- What two rules come to from one state, and then each after the other: the answers are the same, a refusal too, and so is the
-  -- state at the end. (In a refusal nothing was written, so the other rule meets the state as it was.)
+-- Two rules that are taken at the wiring of the state that they meet.
+module _ {A B : Type 0} (r : Wiring → Rule A) (q : Wiring → Rule B) where
+  -- What the rules come to from s, and then each after the other: the same answers or refusals, and one state at the end. (A refusal
+  -- writes nothing, so the rule after it meets s again.)
   pub data EitherWay (s : State) : Ran A → Ran B → Type 0 where
     both-accepted : {a : A} {b : B} {t u : State} (end : State)
-        → wiring t ≡ wiring s → wiring u ≡ wiring s → run q t ≡ accepted b end → run r u ≡ accepted a end
+        → wiring t ≡ wiring s → wiring u ≡ wiring s → run (q (wiring t)) t ≡ accepted b end → run (r (wiring u)) u ≡ accepted a end
         → EitherWay s (accepted a t) (accepted b u)
-    first-refused : {why : Refusal} {b : B} {u : State} → wiring u ≡ wiring s → run r u ≡ refused why → EitherWay s (refused why) (accepted b u)
-    second-refused : {a : A} {t : State} {why : Refusal} → wiring t ≡ wiring s → run q t ≡ refused why → EitherWay s (accepted a t) (refused why)
+    first-refused : {why : Refusal} {b : B} {u : State}
+        → wiring u ≡ wiring s → run (r (wiring u)) u ≡ refused why → EitherWay s (refused why) (accepted b u)
+    second-refused : {a : A} {t : State} {why : Refusal}
+        → wiring t ≡ wiring s → run (q (wiring t)) t ≡ refused why → EitherWay s (accepted a t) (refused why)
     both-refused : {why why′ : Refusal} → EitherWay s (refused why) (refused why′)
 
   -- two rules that have no item in common come to the same in either order
-  pub either-way : (P Q : Kind → ℕ → Type 0) (s : State) → Disjoint P Q → Within P r s → Within Q q s → EitherWay s (run r s) (run q s)
-  either-way P Q s apart in-P in-Q = go (run r s) (run q s) refl refl
+  pub either-way : (P Q : Kind → ℕ → Type 0) (s : State) → Disjoint P Q → Within P (r (wiring s)) s → Within Q (q (wiring s)) s
+      → EitherWay s (run (r (wiring s)) s) (run (q (wiring s)) s)
+  either-way P Q s apart in-P in-Q = go (run (r (wiring s)) s) (run (q (wiring s)) s) refl refl
     where
       apart-too : Disjoint Q P
       apart-too k n g h = apart k n h g
-      go : (x : Ran A) (y : Ran B) → run r s ≡ x → run q s ≡ y → EitherWay s x y
+      go : (x : Ran A) (y : Ran B) → run (r (wiring s)) s ≡ x → run (q (wiring s)) s ≡ y → EitherWay s x y
       go (accepted a t) (accepted b u) e f =
-          let first = after q r s u b (accepted a t) apart-too in-Q in-P f e in
-          let second = after r q s t a (accepted b u) apart in-P in-Q e f in
-          let at-t = accepted-wiring r s t a e in
-          let at-u = accepted-wiring q s u b f in
+          let first = after (q (wiring s)) r s u b (accepted a t) apart-too in-Q in-P f e in
+          let second = after (r (wiring s)) q s t a (accepted b u) apart in-P in-Q e f in
+          let at-t = accepted-wiring (r (wiring s)) s t a e in
+          let at-u = accepted-wiring (q (wiring s)) s u b f in
           both-accepted (second .end) at-t at-u (second .comes-to) (first .comes-to ∙ ap (accepted a) (one-end apart (at-t ∙ sym at-u) first second))
-      go (accepted a t) (refused why) e f = second-refused (accepted-wiring r s t a e) (after r q s t a (refused why) apart in-P in-Q e f)
-      go (refused why) (accepted b u) e f = first-refused (accepted-wiring q s u b f) (after q r s u b (refused why) apart-too in-Q in-P f e)
+      go (accepted a t) (refused why) e f =
+          second-refused (accepted-wiring (r (wiring s)) s t a e) (after (r (wiring s)) q s t a (refused why) apart in-P in-Q e f)
+      go (refused why) (accepted b u) e f =
+          first-refused (accepted-wiring (q (wiring s)) s u b f) (after (q (wiring s)) r s u b (refused why) apart-too in-Q in-P f e)
       go (refused why) (refused why′) e f = both-refused
