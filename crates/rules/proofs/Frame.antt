@@ -1,6 +1,6 @@
 -- A rule keeps to its items: where two states agree on them it does the same in both, and it changes no other item. So two rules
 -- that have no item in common come to the same in either order.
-use Prim.Native.Nat.{ℕ, zero, suc, _≤_, _<_}
+use Prim.Native.Nat.{ℕ, zero, suc}
 use mathlib.Core.Path.{_≡_, refl, sym, ap, _∙_, subst, subst₂}
 use mathlib.Core.Bool.{Bool, true, false, _&&_}
 use mathlib.Core.List.{List, map}
@@ -13,7 +13,7 @@ use lib.Seq.{set-out, getD-set-same, getD-set-other, map-set-same, ext-getD}
 use borrow.Author.Tests.{leb-true, leb-false, eqb-true, eqb-false, eq-eqb, ne-eqb}
 use Rattle.rules.specs.Lists.{if_then_else_, within, nth, set-nth}
 use Rattle.rules.specs.Numbers.{Refusal}
-use Rattle.rules.specs.State.{Core, Process, Ends, Channel, State, Wiring, wiring}
+use Rattle.rules.specs.State.{Ends, Channel, State, Wiring, wiring}
 use Rattle.rules.specs.Items.{
   Kind,
   core,
@@ -47,6 +47,7 @@ module _ {A : Type 0} (l : List A) where
     map-set-nth zero a e = refl
     map-set-nth (suc i) a e = map-set-same f l i a d e
 
+    -- and so it leaves what f reads of the m-th
     nth-kept : (n m : ℕ) (a : A) → f a ≡ f (nth l n d) → f (nth (set-nth l n a) m d) ≡ f (nth l m d)
     nth-kept n zero a e = refl
     nth-kept n (suc j) a e =
@@ -160,8 +161,8 @@ pub put-own : (k : Kind) (n : ℕ) (v : Val k) (s : State) → there (wiring s) 
 put-own k n v s h = rw (put-kind, eq-eqb n n refl, h)
 
 -- a state's wiring with other ends
-abbrev wired : State → List Ends → Wiring
-wired s ends = record { K = length (s .cores); N = length (s .processes); ends = ends }
+abbrev with-ends : State → List Ends → Wiring
+with-ends s ends = record { K = length (s .cores); N = length (s .processes); ends = ends }
 
 -- a write leaves the wiring
 pub put-wiring : (k : Kind) (n : ℕ) (v : Val k) (s : State) → wiring (put k n v s) ≡ wiring s
@@ -170,8 +171,8 @@ put-wiring place n v s = rw length-set-nth
 put-wiring data-word n v s = rw length-set-nth
 put-wiring alternation n v s = rw length-set-nth
 put-wiring progress n v s = rw length-set-nth
-put-wiring channel-word n v s = ap (wired s) (map-set-nth (s .channels) (λ (r : Channel). r .ends) no-channel n _ refl)
-put-wiring transfers n v s = ap (wired s) (map-set-nth (s .channels) (λ (r : Channel). r .ends) no-channel n _ refl)
+put-wiring channel-word n v s = ap (with-ends s) (map-set-nth (s .channels) (λ (r : Channel). r .ends) no-channel n _ refl)
+put-wiring transfers n v s = ap (with-ends s) (map-set-nth (s .channels) (λ (r : Channel). r .ends) no-channel n _ refl)
 
 -- two states with one wiring that agree on every item are equal
 pub same-state : (s t : State) → wiring s ≡ wiring t → ((k : Kind) (n : ℕ) → get k s n ≡ get k t n) → s ≡ t
@@ -179,6 +180,7 @@ same-state s t w e = λ x. record { cores = cores x; processes = processes x; ch
   where
     cores : s .cores ≡ t .cores
     cores = ext-getD no-core (s .cores) (t .cores) (ap (λ v. v .K) w) (λ i h. e core i)
+
     process : (i : ℕ) → getD (s .processes) i no-process ≡ getD (t .processes) i no-process
     process i =
         λ x. record {
@@ -187,14 +189,18 @@ same-state s t w e = λ x. record { cores = cores x; processes = processes x; ch
           alternation = e alternation (suc i) x;
           progress = e progress (suc i) x;
         }
+
     processes : s .processes ≡ t .processes
     processes = ext-getD no-process (s .processes) (t .processes) (ap (λ v. v .N) w) (λ i h. process i)
+
     ends : (i : ℕ) → getD (s .channels) i no-channel .ends ≡ getD (t .channels) i no-channel .ends
     ends i =
         sym (List·getD-map (λ (c : Channel). c .ends) (s .channels) i no-channel) ∙ ap (λ v. getD (v .ends) i (no-channel .ends)) w
         ∙ List·getD-map (λ (c : Channel). c .ends) (t .channels) i no-channel
+
     channel : (i : ℕ) → getD (s .channels) i no-channel ≡ getD (t .channels) i no-channel
     channel i = λ x. record { ends = ends i x; word = e channel-word (suc i) x; transfers = e transfers (suc i) x }
+
     channels : s .channels ≡ t .channels
     channels = ext-getD no-channel (s .channels) (t .channels) (simp length-map at (ap (λ v. length (v .ends)) w)) (λ i h. channel i)
 
@@ -217,16 +223,16 @@ abbrev pub Keeps : (Kind → ℕ → Type 0) → State → State → Type 0
 Keeps P s t = (k : Kind) (n : ℕ) → P k n ⊎ (get k s n ≡ get k t n)
 
 -- what a rule comes to has the wiring w, if the rule is accepted
-abbrev pub Wired : {A : Type 0} → Wiring → Ran A → Type 0
-Wired w (accepted a t) = wiring t ≡ w
-Wired w (refused why) = Unit {0}
+abbrev pub HasWiring : {A : Type 0} → Wiring → Ran A → Type 0
+HasWiring w (accepted a t) = wiring t ≡ w
+HasWiring w (refused why) = Unit {0}
 
 -- a rule leaves the wiring
-pub run-wiring : {A : Type 0} (r : Rule A) (s : State) → Wired (wiring s) (run r s)
+pub run-wiring : {A : Type 0} (r : Rule A) (s : State) → HasWiring (wiring s) (run r s)
 run-wiring (done a) s = refl
 run-wiring (refuse w) s = tt
 run-wiring (read k n f) s = run-wiring (f (get k s n)) s
-run-wiring (write k n v r) s = subst (λ w. Wired w (run r (put k n v s))) (put-wiring k n v s) (run-wiring r (put k n v s))
+run-wiring (write k n v r) s = subst (λ w. HasWiring w (run r (put k n v s))) (put-wiring k n v s) (run-wiring r (put k n v s))
 
 module _ (P : Kind → ℕ → Type 0) where
   -- A rule that comes from s to a and s′ follows it from t: it is accepted with the same answer and the same values in P, and changes
@@ -249,6 +255,7 @@ module _ (P : Kind → ℕ → Type 0) where
     where
       own : get k (put k n v s) n ≡ get k (put k n v t) n
       own = rw (put-kind k n n v s, put-kind k n n v t, e .wired, e .alike k n h)
+
       go : (j : Kind) (m : ℕ) → P j m → Dec ((k ≡ j) × (n ≡ m)) → get j (put k n v s) m ≡ get j (put k n v t) m
       go j m g (yes p) = subst₂ (λ (i : Kind) (x : ℕ). get i (put k n v s) x ≡ get i (put k n v t) x) (p .0) (p .1) own
       go j m g (no q) = rw (put-other k j n m v s q, put-other k j n m v t q) (e .alike j m g)
@@ -298,7 +305,7 @@ module _ (P : Kind → ℕ → Type 0) where
 
 -- an accepted rule leaves the wiring
 pub accepted-wiring : {A : Type 0} (r : Rule A) (s t : State) (a : A) → run r s ≡ accepted a t → wiring t ≡ wiring s
-accepted-wiring r s t a e = subst (Wired (wiring s)) e (run-wiring r s)
+accepted-wiring r s t a e = subst (HasWiring (wiring s)) e (run-wiring r s)
 
 -- Either order
 
@@ -358,6 +365,7 @@ module _ {A B : Type 0} (r : Wiring → Rule A) (q : Wiring → Rule B) where
     where
       apart-too : Disjoint Q P
       apart-too k n g h = apart k n h g
+
       go : (x : Ran A) (y : Ran B) → run (r (wiring s)) s ≡ x → run (q (wiring s)) s ≡ y → EitherWay s x y
       go (accepted a t) (accepted b u) e f =
           let first = after (q (wiring s)) r s u b (accepted a t) apart-too in-Q in-P f e in

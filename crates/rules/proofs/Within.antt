@@ -1,6 +1,6 @@
 -- Each rule keeps to the items that `touched` lists for its call: no rule reads or writes another, in any state.
 use Prim.Native.Nat.{ℕ, zero, suc, _<_}
-use mathlib.Core.Path.{_≡_, refl, sym, ap, _∙_, subst}
+use mathlib.Core.Path.{_≡_, refl}
 use mathlib.Core.Bool.{Bool, true, false}
 use mathlib.Core.List.{List, [], _∷_, _++_, map, flatMap, List·Memᴰ, List·Memᴰ·head, List·Memᴰ·tail}
 use mathlib.Core.Option.{Option, none, some}
@@ -8,7 +8,7 @@ use lib.Dec.{eqb}
 use lib.ListN.{length}
 use borrow.Author.Tests.{lt-ltb}
 use Rattle.rules.specs.Lists.{if_then_else_, within, member}
-use Rattle.rules.specs.Numbers.{Answer, Refusal, CHANNEL, OTHER-END, TWICE, GUARDS}
+use Rattle.rules.specs.Numbers.{Answer, Refusal, TWICE, GUARDS}
 use Rattle.rules.specs.State.{
   Place,
   running,
@@ -42,7 +42,6 @@ use Rattle.rules.specs.State.{
   nothing,
   doing,
   due,
-  Task,
   no-task,
   trigger,
   wake-up,
@@ -58,14 +57,13 @@ use Rattle.rules.specs.State.{
   State,
   Wiring,
   wiring,
-  end-of,
 }
-use Rattle.rules.specs.Items.{Kind, core, place, data-word, alternation, progress, channel-word, transfers, Item, get, put, core-of}
-use Rattle.rules.specs.Rule.{Rule, done, refuse, read, write, Ran, accepted, refused, run, go-on, _>>=_, _>>_}
-use Rattle.rules.specs.Steps.{sleeps, must-sleep, wakes, parked, copies, reports, with-work, outcome}
+use Rattle.rules.specs.Items.{Kind, core, place, data-word, alternation, progress, channel-word, Item, get, put, core-of}
+use Rattle.rules.specs.Rule.{Rule, done, refuse, read, write, Ran, run, go-on, _>>=_, _>>_}
+use Rattle.rules.specs.Steps.{must-sleep, wakes, parked, copies, reports, with-work}
 use Rattle.rules.specs.Choice.{guard, lowered, raised, placed, waits, disabled, first-ready, finished}
-use Rattle.rules.specs.Scheduler.{taken, schedule, stage-step, running-step, work-step, step}
-use Rattle.rules.specs.Requests.{Request, send, receive, choose, yield, end, unless, in-hand, requester, proper-end, proper-guards, asks, request}
+use Rattle.rules.specs.Scheduler.{taken, schedule, stage-step, running-step, work-step}
+use Rattle.rules.specs.Requests.{Request, send, receive, choose, yield, end, unless, in-hand, requester, proper-end, proper-guards, asks}
 use Rattle.rules.specs.Calls.{Ask, the-step, a-request, rule-of}
 use Rattle.rules.specs.Touched.{
   record-and-running,
@@ -74,7 +72,6 @@ use Rattle.rules.specs.Touched.{
   take-items,
   progress-items,
   work-items,
-  request-items,
   accepted-items,
   ask-items,
   touched,
@@ -86,26 +83,31 @@ abbrev pub All : (Kind → ℕ → Type 0) → List Item → Type 0
 All P [] = Unit {0}
 All P (x ∷ l) = P (x .kind) (x .number) × All P l
 
--- What a request is checked for: a check touches nothing: it lets the rule go on, or refuses
+-- what a request is checked for: a check touches nothing, and lets the rule go on or refuses it
 data Check : Rule (Unit {0}) → Type 0 where
   passes : Check go-on
   fails : (why : Refusal) → Check (refuse why)
 
+-- a test is a check
 check-unless : (b : Bool) (why : Refusal) → Check (unless b why)
 check-unless true why = passes
 check-unless false why = fails why
 
+-- one check after another is a check
 check-then : {r q : Rule (Unit {0})} → Check r → Check q → Check (r >> q)
 check-then passes h = h
 check-then (fails why) h = fails why
 
+-- so is the check that p is at its end of channel c
 check-end : (w : Wiring) (way : Way) (p c : ℕ) → Check (proper-end w way p c)
 check-end w way p c = search (check-then, check-unless)
 
+-- and the check of a list of guards
 check-guards : (w : Wiring) (p : ℕ) (earlier gs : List ℕ) → Check (proper-guards w p earlier gs)
 check-guards w p earlier [] = passes
 check-guards w p earlier (c ∷ rest) =
-    check-then (check-end w receiving p c) (check-then (check-unless (if member c earlier then false else true) TWICE) (check-guards w p (c ∷ earlier) rest))
+    check-then (check-end w receiving p c)
+    (check-then (check-unless (if member c earlier then false else true) TWICE) (check-guards w p (c ∷ earlier) rest))
 
 module _ (P : Kind → ℕ → Type 0) where
   -- where every item of two lists is in P, every item of each is
@@ -114,7 +116,8 @@ module _ (P : Kind → ℕ → Type 0) where
   all-parts (x ∷ l) m h = let parts = all-parts l m (h .1) in ((h .0, parts .0), parts .1)
 
   -- one rule, then another that keeps to P wherever it starts
-  within-then : {A B : Type 0} (r : Rule A) (f : A → Rule B) (s : State) → Within P r s → ((a : A) (t : State) → Within P (f a) t) → Within P (r >>= f) s
+  within-then : {A B : Type 0} (r : Rule A) (f : A → Rule B) (s : State)
+      → Within P r s → ((a : A) (t : State) → Within P (f a) t) → Within P (r >>= f) s
   within-then (done a) f s h g = g a s
   within-then (refuse w) f s h g = tt
   within-then (read k n q) f s h g = (h .0, within-then (q (get k s n)) f s (h .1) g)
@@ -125,23 +128,32 @@ module _ (P : Kind → ℕ → Type 0) where
   within-if true r q s h g = h
   within-if false r q s h g = g
 
+  -- lowering a count touches nothing
   lowered-within : (n : ℕ) (s : State) → Within P (lowered n) s
   lowered-within zero s = tt
   lowered-within (suc n) s = tt
 
+  -- raising a count touches nothing
   raised-within : (n : ℕ) (s : State) → Within P (raised n) s
   raised-within n s = within-if (eqb n 9) _ _ s tt tt
 
+  -- that a process must be asleep touches nothing
   must-sleep-within : (was : Place) (s : State) → Within P (must-sleep was) s
   must-sleep-within running s = tt
   must-sleep-within queued s = tt
   must-sleep-within asleep s = tt
   must-sleep-within ended s = tt
 
-  -- waking q by core k
+  -- that a guard must be ready touches nothing
+  first-ready-within : (gs : List ℕ) (r : Option ℕ) (s : State) → Within P (first-ready gs r) s
+  first-ready-within gs none s = tt
+  first-ready-within gs (some i) s = tt
+
+  -- waking q by core k touches the core and q's place
   wakes-within : (k q : ℕ) (s : State) → P core k → P place q → Within P (wakes k q) s
   wakes-within k q s h g = (g, within-then (must-sleep (get place s q)) _ s (must-sleep-within (get place s q) s) (λ a t. search))
 
+  -- answering an outcome touches the process's progress and data
   reports-within : (p : ℕ) (o : Outcome) (s : State) → P progress p → P data-word p → Within P (reports p o) s
   reports-within p go s h g = search
   reports-within p (sent c) s h g = search
@@ -150,38 +162,41 @@ module _ (P : Kind → ℕ → Type 0) where
 
   -- A running process: its core, progress, data and place are in P.
   module _ (k p : ℕ) (own : All P (record-and-running k (runs p))) where
+    -- parking, by the old word
     parked-within : (w : Way) (c : ℕ) (old : ChannelWord) (s : State) → Within P (parked k p w c old) s
     parked-within w c nobody s = search
     parked-within w c (plain q) s = search
     parked-within w c (choosing q) s = search
 
+    -- copying to or from q
     copies-within : (w : Way) (q : ℕ) (s : State) → P data-word q → Within P (copies w p q) s
     copies-within sending q s h = search
     copies-within receiving q s h = search
 
+    -- placing one's name in a guard, by its word
     placed-within : (gs : List ℕ) (i : ℕ) (word : ChannelWord) (s : State) → P channel-word (guard gs i) → Within P (placed p gs i word) s
     placed-within gs i nobody s h = search
     placed-within gs i (plain q) s h = search
     placed-within gs i (choosing q) s h = search
 
+    -- disabling a guard, by its word
     disabled-within : (gs : List ℕ) (i : ℕ) (r : Option ℕ) (word : ChannelWord) (s : State) → P channel-word (guard gs i)
         → Within P (disabled p gs i r word) s
     disabled-within gs i r nobody s h = search
     disabled-within gs i r (plain q) s h = search
     disabled-within gs i r (choosing q) s h = search within-if
 
+    -- waiting, or going on where a guard is ready
     waits-within : (gs : List ℕ) (a : Alternation) (not-ready : Bool) (s : State) → P alternation p → Within P (waits k p gs a not-ready) s
     waits-within gs a true s h = search
     waits-within gs a false s h = search
 
+    -- choosing c, by the count
     finished-within : (c n : ℕ) (s : State) → Within P (finished k p c n) s
     finished-within c zero s = search
     finished-within c (suc n) s = search
 
-    first-ready-within : (gs : List ℕ) (r : Option ℕ) (s : State) → Within P (first-ready gs r) s
-    first-ready-within gs none s = tt
-    first-ready-within gs (some i) s = tt
-
+    -- each stage of a request touches the running process and what is listed for the stage
     stage-within : (x : Stage) (s : State) → All P (stage-items p x) → Within P (stage-step k p x) s
     stage-within (look w c) s h = search
     stage-within (park w c) s h = search parked-within
@@ -198,17 +213,19 @@ module _ (P : Kind → ℕ → Type 0) where
     stage-within (lower gs i r) s h = search (within-then, lowered-within)
     stage-within (finish gs r) s h = search (within-then, first-ready-within, lowered-within, finished-within)
 
-    -- a step of a running process
+    -- a step of the running process, by its progress
     running-within : (c : Core) (has : Progress) (s : State) → All P (progress-items c p has) → Within P (running-step k p has) s
     running-within c nothing s h = tt
     running-within c (doing x) s h = stage-within x s (all-parts (queue-places c) (stage-items p x) h .1)
     running-within c (due o) s h = tt
 
+  -- what a taken process answers, by its progress
   taken-within : (p : ℕ) (had : Progress) (s : State) → P progress p → P data-word p → Within P (taken p had) s
   taken-within p nothing s h g = tt
   taken-within p (doing x) s h g = tt
   taken-within p (due o) s h g = reports-within p o s h g
 
+  -- a core with nothing to run takes, stores, loads or idles
   schedule-within : (k : ℕ) (c : Core) (n : ℕ) (active : List ℕ) (batches : List (List ℕ)) (s : State) → P core k
       → All P (flatMap (map (λ p. record { kind = place; number = p })) (active ∷ batches)) → All P (take-items n active)
       → Within P (schedule k c n active batches) s
@@ -218,7 +235,7 @@ module _ (P : Kind → ℕ → Type 0) where
   schedule-within k c n [] (batch ∷ rest) s own waiting h = search
   schedule-within k c n [] [] s own waiting h = tt
 
-  -- the step of a core that has the work w
+  -- the step of a core, by its work
   work-within : (k : ℕ) (c : Core) (w : Work) (s : State) → All P (record-and-running k w) → All P (work-items s c w) → Within P (work-step k c w) s
   work-within k c (runs p) s own h = search running-within
   work-within k c (free no-task) s own h =
@@ -237,6 +254,7 @@ module _ (P : Kind → ℕ → Type 0) where
   abbrev Listed : Core → ℕ → Request → Ran Answer → Type 0
   Listed c p r ran = All P (accepted-items (with-work (runs p) c) r ran)
 
+  -- each request of a process with nothing in hand
   asks-within : (w : Wiring) (k p : ℕ) (c : Core) (r : Request) (s : State)
       → All P (record-and-running k (runs p)) → Listed c p r (run (asks w k p r) s) → Within P (asks w k p r) s
   asks-within w k p c (send d v) s own h = within-checked (Listed c p (send d v)) _ s (check-end w sending p d) (λ g. search) h
@@ -247,7 +265,7 @@ module _ (P : Kind → ℕ → Type 0) where
   asks-within w k p c yield s own h = search
   asks-within w k p c end s own h = search
 
-  -- what a process with this progress asks for
+  -- a request, by the progress of the running process
   in-hand-within : (w : Wiring) (k p : ℕ) (c : Core) (r : Request) (has : Progress) (s : State)
       → All P (record-and-running k (runs p)) → Listed c p r (run (in-hand p has >>= λ q. asks w k q r) s)
       → Within P (in-hand p has >>= λ q. asks w k q r) s
@@ -255,7 +273,7 @@ module _ (P : Kind → ℕ → Type 0) where
   in-hand-within w k p c r (doing x) s own h = tt
   in-hand-within w k p c r (due o) s own h = tt
 
-  -- what a core with this work is asked for
+  -- a request, by the work of the core
   requester-within : (w : Wiring) (k : ℕ) (c : Core) (r : Request) (work : Work) (s : State)
       → All P (record-and-running k work) → All P (accepted-items (with-work work c) r (run (requester work >>= λ q. asks w k q r) s))
       → Within P (requester work >>= λ q. asks w k q r) s
@@ -274,14 +292,14 @@ module _ (P : Kind → ℕ → Type 0) where
   rule-within s k (a-request r) own h =
       let c = core-of s k in (own-core k (c .work) own, requester-within (wiring s) k c r (c .work) s own h)
 
--- every item of a list is in it, and in any list that has it
+-- where the members of a list are in P, every item of the list is
 all-members : (l : List Item) (P : Kind → ℕ → Type 0) → ((x : Item) → List·Memᴰ x l → P (x .kind) (x .number)) → All P l
 all-members [] P f = tt
 all-members (x ∷ l) P f = (f x (List·Memᴰ·head refl), all-members l P (λ y m. f y (List·Memᴰ·tail m)))
 
 -- the items that a call touches
-abbrev pub Touched : State → ℕ → Ask → Kind → ℕ → Type 0
-Touched s k ask kind n = List·Memᴰ (record { kind = kind; number = n }) (touched s k ask)
+abbrev pub IsTouched : State → ℕ → Ask → Kind → ℕ → Type 0
+IsTouched s k ask kind n = List·Memᴰ (record { kind = kind; number = n }) (touched s k ask)
 
 -- on a core that is there, a call touches the core's record and running process, and what is listed for what it asks
 touched-there : (s : State) (k : ℕ) (ask : Ask) → k < length (s .cores)
@@ -290,10 +308,10 @@ unfolding touched
 touched-there s k ask h = rw lt-ltb
 
 -- on a core that is there, a call keeps to the items that it touches
-pub within-touched : (s : State) (k : ℕ) (ask : Ask) → k < length (s .cores) → Within (Touched s k ask) (rule-of (wiring s) ask k) s
-within-touched s k ask h =
-    let P = Touched s k ask in
-    let parts =
-        all-parts P (record-and-running k (core-of s k .work)) (ask-items s k (core-of s k) ask)
-        (rw (touched-there s k ask h) at (all-members (touched s k ask) P (λ x m. m))) in
-    rule-within P s k ask (parts .0) (parts .1)
+pub within-touched : (s : State) (k : ℕ) (ask : Ask) → k < length (s .cores) → Within (IsTouched s k ask) (rule-of (wiring s) ask k) s
+within-touched s k ask h = rule-within (IsTouched s k ask) s k ask (parts .0) (parts .1)
+  where
+    parts : All (IsTouched s k ask) (record-and-running k (core-of s k .work)) × All (IsTouched s k ask) (ask-items s k (core-of s k) ask)
+    parts =
+        all-parts (IsTouched s k ask) (record-and-running k (core-of s k .work)) (ask-items s k (core-of s k) ask)
+        (rw (touched-there s k ask h) at (all-members (touched s k ask) (IsTouched s k ask) (λ x m. m)))
