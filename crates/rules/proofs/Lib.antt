@@ -1,1 +1,4 @@
 pub mod BenchSheet
+pub mod Frame
+pub mod Within
+pub mod Commute
