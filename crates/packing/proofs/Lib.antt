@@ -3,3 +3,8 @@ pub mod Blocks
 pub mod Reflect
 pub mod Sums
 pub mod Chains
+pub mod Reading
+pub mod ViewChannel
+pub mod ViewCore
+pub mod ViewProcess
+pub mod Means
