@@ -1,0 +1,15 @@
+-- The code's record of a number and its words, in the rules' terms.
+use Prim.Native.Nat.{ℕ}
+use mathlib.Core.List.{List, [], _∷_}
+use lib.Dec.{ltb}
+use Rattle.rules.specs.Lists.{if_then_else_}
+use Rattle.rules.specs.Numbers.{Said, reply}
+use Rattle.answers.specs.declared.Reply.{Reply}
+
+-- the number and the words of an answer or a refusal
+abbrev pub four : Said → Reply
+four a = let r = reply a in record { number = r .number; process = r .process; channel = r .channel; value = r .value }
+
+-- the answer slice after a call: an accepted call's words; as it was after a refused one
+abbrev pub words-after : Reply → List ℕ → List ℕ
+words-after r old = if ltb (r .number) 20 then (r .process ∷ r .channel ∷ r .value ∷ []) else old
