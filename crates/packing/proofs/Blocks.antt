@@ -158,11 +158,11 @@ words-of s =
       channel = λ c f. getD (channel-words (channel-of s c)) f 0;
     }
 
--- a word of the second of two lists
-second-part : (l m : List ℕ) (n i : ℕ) → length l ≡ n → getD (l ++ m) (n + i) 0 ≡ getD m i 0
+-- a word of the second of two lists, and of the first
+pub second-part : (l m : List ℕ) (n i : ℕ) → length l ≡ n → getD (l ++ m) (n + i) 0 ≡ getD m i 0
 second-part l m n i e = subst (λ (k : ℕ). getD (l ++ m) (k + i) 0 ≡ getD m i 0) e (getD-append-add l m i 0)
 
-first-part : (l m : List ℕ) (n i : ℕ) → length l ≡ n → i < n → getD (l ++ m) i 0 ≡ getD l i 0
+pub first-part : (l m : List ℕ) (n i : ℕ) → length l ≡ n → i < n → getD (l ++ m) i 0 ≡ getD l i 0
 first-part l m n i e h = List·getD-append l m 0 i (subst (λ (k : ℕ). i < k) (sym e) h)
 
 abbrev core-blocks : State → List ℕ

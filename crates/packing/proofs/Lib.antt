@@ -1,2 +1,3 @@
 pub mod Regions
 pub mod Blocks
+pub mod ReadLaws
