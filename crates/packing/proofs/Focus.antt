@@ -146,7 +146,7 @@ block-set j g v l W i f a b inside number place back = cases (eqb i j) refl
     cases false e = ap (λ (x : Bool). if x then v else W i f) (ne-eqb a b (λ q. eqb-false i j e (number q)))
 
 -- a word at another address is kept
-apart : (a b v x : ℕ) → (a ≡ b → ⊥) → (if eqb a b then v else x) ≡ x
+pub apart : (a b v x : ℕ) → (a ≡ b → ⊥) → (if eqb a b then v else x) ≡ x
 apart a b v x ne = rw (ne-eqb a b ne)
 
 module _ (d : Dims) (w : Words) (j f v : ℕ) (l : List ℕ) (inside : f < length l) where

@@ -1,6 +1,6 @@
 -- Write laws: writes into one block of a packing give the packing of the state with another item.
 use Prim.Native.Nat.{ℕ, zero, suc, _+_, _*_, _-_, _≤_, _<_}
-use mathlib.Core.Path.{_≡_, refl, sym, ap, _∙_, subst}
+use mathlib.Core.Path.{_≡_, refl, sym, ap, _∙_, ap₂}
 use mathlib.Core.Bool.{Bool, true, false, _&&_}
 use mathlib.Core.List.{List, [], _∷_, _++_, append-assoc}
 use native.Mathlib.Omega.{arith}
@@ -8,12 +8,15 @@ use lib.Dec.{T, eqb, ltb, ltb→lt, lit≤}
 use lib.ListN.{length, getD, set, length-set}
 use lib.Seq.{getD-set-same, getD-set-other}
 use borrow.Author.Tests.{eqb-true, eqb-false}
-use Rattle.rules.specs.Lists.{if_then_else_, nth, set-nth, bit, last}
-use Rattle.rules.specs.State.{Place, Alternation, Progress, Process, ChannelWord, Channel, State}
-use Rattle.rules.specs.Items.{no-process, no-channel, core-of, process-of, channel-of, put, place, data-word, alternation, progress, channel-word, transfers}
+use Rattle.rules.specs.Lists.{if_then_else_, nth, set-nth, total, follows, last}
+use Rattle.rules.specs.State.{Place, Alternation, Progress, Process, ChannelWord, Channel, Core, State}
+use Rattle.rules.specs.Items.{no-process, no-channel, core-of, process-of, channel-of, put, core, place, data-word, alternation, progress, channel-word, transfers}
 use Rattle.rules.specs.Packing.{
   place-number,
   word-number,
+  heads,
+  if-head,
+  core-at,
   core-words,
   progress-words,
   next-link,
@@ -36,7 +39,8 @@ use Rattle.packing.proofs.Blocks.{
   length-channel-words,
   length-progress-words,
 }
-use Rattle.packing.proofs.ReadLaws.{alternation-words, own-words, link-words, channel-list, process-split}
+use Rattle.packing.proofs.Links.{links-of, held-first, held-writes, held-last, next-in, head-in, next-head-in, share-kept}
+use Rattle.packing.proofs.ReadLaws.{core-list, alternation-words, own-words, link-words, channel-list, process-split}
 use Rattle.packing.proofs.Focus.{Region, cores, processes, channels, size-in, Has, address, words-in, focus, focus-start, focus-writes, in-block, packed, same-header, writes, below, writes-inside, below-shifted, by-test}
 
 -- the words of a block of a state
@@ -182,3 +186,20 @@ module _ (s : State) (c : ℕ) (low : 1 ≤ c) (high : c ≤ length (s .channels
   -- word 3: transfers
   pub put-transfers : (n : ℕ) → set (pack s) (channel-at (length (s .cores)) (length (s .processes)) c 3) n ≡ pack (put transfers c n s)
   put-transfers n = channel-law s c _ (λ j. j) ((3, n) ∷ []) low high tt refl
+
+-- Cores
+
+-- Writes that turn a core's words into those of a core with the same queues
+pub put-core : (s : State) (k : ℕ) (c : Core) (at : ℕ → ℕ) (ws : List (ℕ × ℕ)) → k < length (s .cores) → T (below 16 at ws)
+    → core-of s k .active ≡ c .active → core-of s k .run-queue ≡ c .run-queue
+    → writes ws at (core-list (core-of s k)) ≡ core-list c
+    → writes ws (λ f. core-at k (at f)) (pack s) ≡ pack (put core k c s)
+unfolding next-link head-link batch-link
+put-core s k c at ws inside b same-active same-batches turned =
+    held-last s k c (writes ws at (core-list (core-of s k))) (links-of s) _ inside (held-writes s k inside at ws b (held-first s k inside)) turned
+    (record {
+      next = λ p low high. share-kept s k c inside (next-in p) (ap₂ (λ a r. total (follows p) (a ∷ r)) same-active same-batches);
+      batch-last = λ p low high. share-kept s k c inside (head-in last p) (ap (total (if-head last p)) same-batches);
+      batch-size = λ p low high. share-kept s k c inside (head-in length p) (ap (total (if-head length p)) same-batches);
+      next-head = λ p low high. share-kept s k c inside (next-head-in p) (ap (λ r. follows p (heads r)) same-batches);
+    })
