@@ -9,3 +9,8 @@ pub mod ViewCore
 pub mod ViewProcess
 pub mod ViewChannel
 pub mod Means
+pub mod ReadLaws
+pub mod Focus
+pub mod QueueLists
+pub mod Links
+pub mod WriteLaws

@@ -98,7 +98,7 @@ written d a v w =
     }
 
 -- one word of a list after another was written
-getD-set : (t : List ℕ) (a v i x : ℕ) → a < length t → getD t i 0 ≡ x → getD (set t a v) i 0 ≡ (if eqb i a then v else x)
+pub getD-set : (t : List ℕ) (a v i x : ℕ) → a < length t → getD t i 0 ≡ x → getD (set t a v) i 0 ≡ (if eqb i a then v else x)
 getD-set t a v i x inside e = cases (eqb i a) refl
   where
     cases : (b : Bool) → eqb i a ≡ b → getD (set t a v) i 0 ≡ (if b then v else x)

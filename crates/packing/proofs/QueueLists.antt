@@ -1,0 +1,96 @@
+-- Queues as lists: what follows a number, how often it stands there, and sums over lists.
+use Prim.Native.Nat.{ℕ, zero, suc, _+_, _≤_, _<_}
+use mathlib.Core.Path.{_≡_, refl, sym, ap, _∙_}
+use mathlib.Core.Bool.{Bool, true, false}
+use mathlib.Core.List.{List, [], _∷_, _++_}
+use native.Mathlib.Omega.{arith}
+use native.Mathlib.Nat.{zero-add, add-zero}
+use lib.Dec.{eqb}
+use lib.ListN.{length, getD, set}
+use borrow.Author.Tests.{eqb-true, eqb-false, eq-eqb, ne-eqb}
+use Rattle.rules.specs.Lists.{if_then_else_, total, bit, times, first, last, follows}
+use Rattle.rules.specs.Packing.{heads, if-head}
+use Rattle.packing.proofs.Focus.{by-test}
+
+-- Sums
+
+module _ {A : Type 0} where
+  -- a sum over a list of which one element is another
+  pub total-set : (f : A → ℕ) (l : List A) (k : ℕ) (a d : A) → k < length l → total f (set l k a) + f (getD l k d) ≡ total f l + f a
+  total-set f [] k a d h = absurd (omega arith)
+  total-set f (x ∷ l) zero a d h = omega arith
+  total-set f (x ∷ l) (suc k) a d h = omega (arith, total-set f l k a d (omega arith))
+
+  pub total-append : (f : A → ℕ) (l m : List A) → total f (l ++ m) ≡ total f l + total f m
+  total-append f [] m = sym (zero-add (total f m))
+  total-append f (x ∷ l) m = omega (arith, total-append f l m)
+
+  -- where all of one sum is 0, all of another is, if it is for each
+  pub total-none : (f g : A → ℕ) (l : List A) → ((x : A) → f x ≡ 0 → g x ≡ 0) → total f l ≡ 0 → total g l ≡ 0
+  total-none f g [] none h = refl
+  total-none f g (x ∷ l) none h = omega (arith, none x (omega arith), total-none f g l none (omega arith))
+
+  -- of a sum of at most 1, whose k-th part is that 1, all other parts are 0
+  pub total-alone : (f g : A → ℕ) (l : List A) (k : ℕ) (a d : A) → ((x : A) → f x ≡ 0 → g x ≡ 0) → k < length l
+      → total f l ≤ 1 → 1 ≤ f (getD l k d) → total g (set l k a) ≡ g a
+  total-alone f g [] k a d none h once here = absurd (omega arith)
+  total-alone f g (x ∷ l) zero a d none h once here = omega (arith, total-none f g l none (omega arith))
+  total-alone f g (x ∷ l) (suc k) a d none h once here =
+      let part : f (getD l k d) ≤ total f l = part-of l k (omega arith) in
+      omega (arith, none x (omega arith), total-alone f g l k a d none (omega arith) (omega arith) here)
+    where
+      part-of : (l : List A) (k : ℕ) → k < length l → f (getD l k d) ≤ total f l
+      part-of [] k h = absurd (omega arith)
+      part-of (x ∷ l) zero h = omega arith
+      part-of (x ∷ l) (suc k) h = omega (arith, part-of l k (omega arith))
+
+-- How often a number stands in a list
+
+pub times-append : (p : ℕ) (l m : List ℕ) → times p (l ++ m) ≡ times p l + times p m
+times-append p l m = total-append (λ x. bit (eqb x p)) l m
+
+-- the first of a list stands there, and so does the last
+pub times-first : (p x : ℕ) (l : List ℕ) → eqb x p ≡ true → 1 ≤ times p (x ∷ l)
+times-first p x l e = rw e (omega arith)
+
+pub times-last : (x : ℕ) (l : List ℕ) → 1 ≤ times (last (x ∷ l)) (x ∷ l)
+times-last x [] = times-first x x [] (eq-eqb x x refl)
+times-last x (y ∷ l) = omega (arith, times-last y l)
+
+-- What follows a number
+
+-- nothing follows a number that isn't there
+pub follows-none : (p : ℕ) (l : List ℕ) → times p l ≡ 0 → follows p l ≡ 0
+follows-none p [] h = refl
+follows-none p (x ∷ l) h =
+    by-test (eqb x p) (λ e. absurd (omega (arith, ap bit e))) (λ e. follows-none p l (omega (arith, ap bit e)))
+
+-- nor one that is alone
+pub follows-single : (p q : ℕ) → follows p (q ∷ []) ≡ 0
+follows-single p q = by-test (eqb q p) (λ e. refl) (λ e. refl)
+
+-- behind all but the last nothing changes if one more is put at the end
+pub follows-more : (p q : ℕ) (l : List ℕ) → (p ≡ last l → ⊥) → follows p (l ++ (q ∷ [])) ≡ follows p l
+follows-more p q [] ne = follows-single p q
+follows-more p q (x ∷ []) ne = rw (ne-eqb x p (λ e. ne (sym e))) (follows-single p q)
+follows-more p q (x ∷ (y ∷ l)) ne = ap (λ n. if eqb x p then y else n) (follows-more p q (y ∷ l) ne)
+
+-- behind the last it is that one, if the last stands there once
+pub follows-last : (q x : ℕ) (l : List ℕ) → times (last (x ∷ l)) (x ∷ l) ≤ 1 → follows (last (x ∷ l)) (x ∷ l ++ (q ∷ [])) ≡ q
+follows-last q x [] once = rw (eq-eqb x x refl)
+follows-last q x (y ∷ l) once =
+    let before : x ≡ last (y ∷ l) → ⊥ = λ e. omega (arith, ap bit (eq-eqb x (last (y ∷ l)) e), times-last y l) in
+    rw (ne-eqb x (last (y ∷ l)) before) (follows-last q y l (omega arith))
+
+-- Heads
+
+-- a head keeps nothing of a batch where it doesn't stand
+pub if-head-none : (f : List ℕ → ℕ) (p : ℕ) (l : List ℕ) → 1 ≤ p → times p l ≡ 0 → if-head f p l ≡ 0
+if-head-none f p [] low h = rw (ne-eqb 0 p (λ e. omega arith))
+if-head-none f p (x ∷ l) low h = by-test (eqb x p) (λ e. absurd (omega (arith, ap bit e))) (λ e. refl)
+
+-- a process is no more often a head than it stands in batches
+pub times-heads : (p : ℕ) (batches : List (List ℕ)) → 1 ≤ p → times p (heads batches) ≤ total (times p) batches
+times-heads p [] low = omega arith
+times-heads p ([] ∷ batches) low = rw (ne-eqb 0 p (λ e. omega arith)) (omega (arith, times-heads p batches low))
+times-heads p ((x ∷ l) ∷ batches) low = omega (arith, times-heads p batches low)

@@ -1,0 +1,140 @@
+-- Read laws: what code reads at an address of a packing, as an entry of an explicit list. At a literal place the entry computes.
+use Prim.Native.Nat.{ℕ, zero, suc, _+_, _*_, _-_, _≤_, _<_}
+use mathlib.Core.Path.{_≡_, refl, sym, ap, _∙_}
+use mathlib.Core.List.{List, [], _∷_, _++_}
+use native.Mathlib.Omega.{arith}
+use native.Mathlib.Nat.{zero-add, add-zero}
+use lib.ListN.{length, getD}
+use lib.Seq.{ext-getD}
+use Rattle.rules.specs.Lists.{tabulate, bit, first, last}
+use Rattle.rules.specs.State.{Alternation, Process, Core, Channel, State}
+use Rattle.rules.specs.Items.{core-of, process-of, channel-of}
+use Rattle.rules.specs.Packing.{
+  place-number,
+  word-number,
+  work-words,
+  heads,
+  core-words,
+  progress-words,
+  next-link,
+  head-link,
+  batch-link,
+  process-words,
+  channel-words,
+  header-words,
+  pack,
+  core-at,
+  process-at,
+  channel-at,
+}
+use Rattle.packing.proofs.Regions.{Holds}
+use Rattle.packing.proofs.Blocks.{pack-holds, length-work-words, length-progress-words, first-part, second-part}
+
+-- A list written out
+
+length-tabulate : (f : ℕ → ℕ) (a n : ℕ) → length (tabulate f a n) ≡ n
+length-tabulate f a zero = refl
+length-tabulate f a (suc n) = ap suc (length-tabulate f (suc a) n)
+
+-- the i-th of a tabulated list
+getD-tabulate : (f : ℕ → ℕ) (a n i : ℕ) → i < n → getD (tabulate f a n) i 0 ≡ f (a + i)
+getD-tabulate f a zero i h = absurd (omega arith)
+getD-tabulate f a (suc n) zero h = ap f (sym (add-zero a))
+getD-tabulate f a (suc n) (suc i) h =
+    let e : suc a + i ≡ a + suc i = omega arith in
+    getD-tabulate f (suc a) n i (omega arith) ∙ ap f e
+
+-- a list of n words, written out word by word
+abbrev pub listed : List ℕ → ℕ → List ℕ
+listed l n = tabulate (λ i. getD l i 0) 0 n
+
+pub listed-same : (l : List ℕ) (n : ℕ) → length l ≡ n → l ≡ listed l n
+listed-same l n e = ext-getD 0 l (listed l n) (e ∙ sym (length-tabulate (λ i. getD l i 0) 0 n)) each
+  where
+    each : (i : ℕ) → i < length l → getD l i 0 ≡ getD (listed l n) i 0
+    each i h =
+        let b : i < n = omega (arith, e) in
+        sym (getD-tabulate (λ i. getD l i 0) 0 n i b ∙ ap (λ (j : ℕ). getD l j 0) (zero-add i))
+
+-- A core's 16 words: 0 to 2 its work; 3, 4, 5 the active queue's first, last and size; 6 dispatch count; 7 mark; 8, 9 the first
+-- and the last head.
+abbrev pub after-work : Core → List ℕ
+after-work c =
+    first (c .active) ∷ last (c .active) ∷ length (c .active) ∷ c .dispatch ∷ bit (c .mark)
+    ∷ first (heads (c .run-queue)) ∷ last (heads (c .run-queue)) ∷ 0 ∷ 0 ∷ 0 ∷ 0 ∷ 0 ∷ 0 ∷ []
+
+abbrev pub core-list : Core → List ℕ
+core-list c = listed (work-words (c .work)) 3 ++ after-work c
+
+pub core-listed : (c : Core) → core-words c ≡ core-list c
+unfolding core-words
+core-listed c = ap (λ (l : List ℕ). l ++ after-work c) (listed-same (work-words (c .work)) 3 (length-work-words (c .work)))
+
+-- A process's own 20 words: 0 place, 1 data, 2 to 5 alternation state, 6 to 19 progress.
+abbrev pub alternation-words : Alternation → List ℕ
+alternation-words a = bit (a .enabling) ∷ bit (a .not-ready) ∷ bit (a .waiting) ∷ a .count ∷ []
+
+abbrev pub own-words : Process → List ℕ
+own-words r = place-number (r .place) ∷ r .data-word ∷ alternation-words (r .alternation) ++ progress-words (r .progress)
+
+-- its links, words 20 to 23: next, and for a batch's head its last, its size and the next head
+abbrev pub link-words : State → ℕ → List ℕ
+link-words s p = next-link s p ∷ head-link last s p ∷ head-link length s p ∷ batch-link s p ∷ []
+
+pub process-split : (s : State) (p : ℕ) → process-words s p ≡ own-words (process-of s p) ++ link-words s p
+unfolding process-words
+process-split s p = refl
+
+-- all 24, written out
+abbrev pub process-list : State → ℕ → List ℕ
+process-list s p =
+    let r = process-of s p in
+    place-number (r .place) ∷ r .data-word ∷ alternation-words (r .alternation) ++ listed (progress-words (r .progress)) 14 ++ link-words s p
+
+pub process-listed : (s : State) (p : ℕ) → process-words s p ≡ process-list s p
+process-listed s p =
+    let r = process-of s p in
+    process-split s p
+    ∙ ap (λ (l : List ℕ). place-number (r .place) ∷ r .data-word ∷ alternation-words (r .alternation) ++ l ++ link-words s p)
+      (listed-same (progress-words (r .progress)) 14 (length-progress-words (r .progress)))
+
+-- a channel's 4
+abbrev pub channel-list : Channel → List ℕ
+channel-list c = c .ends .writer ∷ c .ends .reader ∷ word-number (c .word) ∷ c .transfers ∷ []
+
+-- the header's 8
+abbrev pub header-list : State → List ℕ
+header-list s = length (s .cores) ∷ length (s .processes) ∷ length (s .channels) ∷ 0 ∷ 0 ∷ 0 ∷ 0 ∷ 0 ∷ []
+
+-- The laws
+
+-- header: 0 the number of cores, 1 of processes, 2 of channels
+pub read-header : (s : State) (f : ℕ) → f < 8
+    → getD (pack s) f 0 ≡ getD (header-list s) f 0
+unfolding header-words
+read-header s f h = pack-holds s .header f h
+
+-- the word f of core k
+pub read-core : (s : State) (k f : ℕ) → k < length (s .cores) → f < 16 → getD (pack s) (core-at k f) 0 ≡ getD (core-list (core-of s k)) f 0
+read-core s k f h b = pack-holds s .core k f h b ∙ ap (λ (l : List ℕ). getD l f 0) (core-listed (core-of s k))
+
+-- the word f of process p
+pub read-process : (s : State) (p f : ℕ) → 1 ≤ p → p ≤ length (s .processes) → f < 24
+    → getD (pack s) (process-at (length (s .cores)) p f) 0 ≡ getD (process-list s p) f 0
+read-process s p f l h b = pack-holds s .process p f l h b ∙ ap (λ (l : List ℕ). getD l f 0) (process-listed s p)
+
+-- the word f of channel c: 0 writer, 1 reader, 2 channel word, 3 transfers
+pub read-channel : (s : State) (c f : ℕ) → 1 ≤ c → c ≤ length (s .channels) → f < 4
+    → getD (pack s) (channel-at (length (s .cores)) (length (s .processes)) c f) 0 ≡ getD (channel-list (channel-of s c)) f 0
+unfolding channel-words
+read-channel s c f l h b = pack-holds s .channel c f l h b
+
+-- the word j of a process's progress, also where j is no literal
+pub read-progress : (s : State) (p j : ℕ) → 1 ≤ p → p ≤ length (s .processes) → j < 14
+    → getD (pack s) (process-at (length (s .cores)) p (6 + j)) 0 ≡ getD (progress-words (process-of s p .progress)) j 0
+read-progress s p j l h b =
+    let r = process-of s p in
+    pack-holds s .process p (6 + j) l h (omega arith)
+    ∙ ap (λ (l : List ℕ). getD l (6 + j) 0) (process-split s p)
+    ∙ second-part (place-number (r .place) ∷ r .data-word ∷ alternation-words (r .alternation)) (progress-words (r .progress) ++ link-words s p) 6 j refl
+    ∙ first-part (progress-words (r .progress)) (link-words s p) 14 j (length-progress-words (r .progress)) b

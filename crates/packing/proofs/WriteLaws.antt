@@ -1,0 +1,205 @@
+-- Write laws: writes into one block of a packing give the packing of the state with another item.
+use Prim.Native.Nat.{ℕ, zero, suc, _+_, _*_, _-_, _≤_, _<_}
+use mathlib.Core.Path.{_≡_, refl, sym, ap, _∙_, ap₂}
+use mathlib.Core.Bool.{Bool, true, false, _&&_}
+use mathlib.Core.List.{List, [], _∷_, _++_, append-assoc}
+use native.Mathlib.Omega.{arith}
+use lib.Dec.{T, eqb, ltb, ltb→lt, lit≤}
+use lib.ListN.{length, getD, set, length-set}
+use lib.Seq.{getD-set-same, getD-set-other}
+use borrow.Author.Tests.{eqb-true, eqb-false}
+use Rattle.rules.specs.Lists.{if_then_else_, nth, set-nth, total, follows, last}
+use Rattle.rules.specs.State.{Place, Alternation, Progress, Process, ChannelWord, Channel, Core, State}
+use Rattle.rules.specs.Items.{no-process, no-channel, core-of, process-of, channel-of, put, core, place, data-word, alternation, progress, channel-word, transfers}
+use Rattle.rules.specs.Packing.{
+  place-number,
+  word-number,
+  heads,
+  if-head,
+  core-at,
+  core-words,
+  progress-words,
+  next-link,
+  head-link,
+  batch-link,
+  process-words,
+  channel-words,
+  header-words,
+  pack,
+  process-at,
+  channel-at,
+}
+use Rattle.packing.proofs.Regions.{Dims, Words, Same, Holds, held-once}
+use Rattle.packing.proofs.Blocks.{
+  dims,
+  words-of,
+  pack-holds,
+  length-core-words,
+  length-process-words,
+  length-channel-words,
+  length-progress-words,
+}
+use Rattle.packing.proofs.Links.{links-of, held-first, held-writes, held-last, next-in, head-in, next-head-in, share-kept}
+use Rattle.packing.proofs.ReadLaws.{core-list, alternation-words, own-words, link-words, channel-list, process-split}
+use Rattle.packing.proofs.Focus.{Region, cores, processes, channels, size-in, Has, address, words-in, focus, focus-start, focus-writes, in-block, packed, same-header, writes, below, writes-inside, below-shifted, by-test}
+
+-- the words of a block of a state
+abbrev pub block-words : Region → State → ℕ → List ℕ
+block-words cores s k = core-words (core-of s k)
+block-words processes s p = process-words s p
+block-words channels s c = channel-words (channel-of s c)
+
+length-block-words : (r : Region) (s : State) (j : ℕ) → length (block-words r s j) ≡ size-in r
+length-block-words cores s k = length-core-words (core-of s k)
+length-block-words processes s p = length-process-words s p
+length-block-words channels s c = length-channel-words (channel-of s c)
+
+-- Writes that turn a block of s into that of s′ turn the packing of s into that of s′, if the two states differ in that block alone.
+pub writes-law : (r : Region) (s s′ : State) (j : ℕ) (at : ℕ → ℕ) (ws : List (ℕ × ℕ)) → Has (dims s) r j → T (below (size-in r) at ws)
+    → dims s′ ≡ dims s → Same (dims s) (focus r j (block-words r s′ j) (words-of s)) (words-of s′)
+    → writes ws at (block-words r s j) ≡ block-words r s′ j
+    → writes ws (λ f. address (dims s) r j (at f)) (pack s) ≡ pack s′
+writes-law r s s′ j at ws h b e same turned =
+    packed s s′ (focus r j (writes ws at (block-words r s j)) (words-of s)) _ e
+    (focus-writes r (dims s) (words-of s) j at ws (block-words r s j) (pack s) h (length-block-words r s j) b
+     (focus-start r (dims s) (words-of s) j (block-words r s j) (pack s) (own r) (pack-holds s)))
+    (rw turned same)
+  where
+    own : (r : Region) (f : ℕ) → words-in r (words-of s) j f ≡ getD (block-words r s j) f 0
+    own cores f = refl
+    own processes f = refl
+    own channels f = refl
+
+-- Lists counted from 1
+
+module _ {A : Type 0} where
+  length-set-nth : (l : List A) (p : ℕ) (a : A) → length (set-nth l p a) ≡ length l
+  length-set-nth l zero a = refl
+  length-set-nth l (suc i) a = length-set l i a
+
+  nth-set-same : (l : List A) (p : ℕ) (a d : A) → 1 ≤ p → p ≤ length l → nth (set-nth l p a) p d ≡ a
+  nth-set-same l zero a d low high = absurd (omega arith)
+  nth-set-same l (suc i) a d low high = getD-set-same l i a d (omega arith)
+
+  nth-set-other : (l : List A) (p i : ℕ) (a d : A) → (i ≡ p → ⊥) → nth (set-nth l p a) i d ≡ nth l i d
+  nth-set-other l zero i a d ne = refl
+  nth-set-other l (suc p) zero a d ne = refl
+  nth-set-other l (suc p) (suc i) a d ne = getD-set-other l p i a d (λ e. ne (ap suc e))
+
+-- Processes
+
+-- the state with another process of number p
+abbrev pub with-process : ℕ → Process → State → State
+with-process p r s = record { cores = s .cores; processes = set-nth (s .processes) p r; channels = s .channels }
+
+-- Writes that turn a process's own words into another's
+pub process-law : (s : State) (p : ℕ) (r : Process) (at : ℕ → ℕ) (ws : List (ℕ × ℕ)) → 1 ≤ p → p ≤ length (s .processes) → T (below 24 at ws)
+    → writes ws at (own-words (process-of s p) ++ link-words s p) ≡ own-words r ++ link-words s p
+    → writes ws (λ f. process-at (length (s .cores)) p (at f)) (pack s) ≡ pack (with-process p r s)
+unfolding next-link head-link batch-link
+process-law s p r at ws low high b turned =
+    writes-law processes s (with-process p r s) p at ws (low, high) b same-dims
+    (record { header = λ f b′. ap (λ (l : List ℕ). getD l f 0) (same-header s (with-process p r s) same-dims);
+      core = λ i f b′ b″. refl;
+      process = λ i f low′ b′ b″. in-block p i _ _ (λ x. getD (process-words (with-process p r s) x) f 0) refl (λ ne. ap (λ (l : List ℕ). getD l f 0) (others i ne));
+      channel = λ i f low′ b′ b″. refl })
+    (ap (writes ws at) (process-split s p) ∙ turned ∙ sym here)
+  where
+    same-dims : dims (with-process p r s) ≡ dims s
+    same-dims = ap (λ (n : ℕ). record { K = length (s .cores); N = n; M = length (s .channels) }) (length-set-nth (s .processes) p r)
+
+    here : process-words (with-process p r s) p ≡ own-words r ++ link-words s p
+    here = process-split (with-process p r s) p ∙ ap (λ (x : Process). own-words x ++ link-words s p) (nth-set-same (s .processes) p r no-process low high)
+
+    others : (i : ℕ) → (i ≡ p → ⊥) → process-words s i ≡ process-words (with-process p r s) i
+    others i ne =
+        process-split s i
+        ∙ ap (λ (x : Process). own-words x ++ link-words s i) (sym (nth-set-other (s .processes) p i r no-process ne))
+        ∙ sym (process-split (with-process p r s) i)
+
+-- Writes into n words that begin at word m, with the words a before them and z behind
+part-law : (s : State) (p : ℕ) (r : Process) (ws : List (ℕ × ℕ)) (a l l′ z : List ℕ) (m n : ℕ) → 1 ≤ p → p ≤ length (s .processes)
+    → length a ≡ m → length l ≡ n → m + n ≤ 24 → T (below n (λ j. j) ws) → writes ws (λ j. j) l ≡ l′
+    → own-words (process-of s p) ++ link-words s p ≡ a ++ l ++ z → a ++ l′ ++ z ≡ own-words r ++ link-words s p
+    → writes ws (λ j. process-at (length (s .cores)) p (m + j)) (pack s) ≡ pack (with-process p r s)
+part-law s p r ws a l l′ z m n low high e e′ fits b turned before after =
+    process-law s p r (λ j. m + j) ws low high (below-shifted ws m n 24 fits b)
+    (ap (writes ws (λ j. m + j)) before ∙ writes-inside ws a l z m n e e′ b ∙ ap (λ (l : List ℕ). a ++ l ++ z) turned ∙ after)
+
+module _ (s : State) (p : ℕ) (low : 1 ≤ p) (high : p ≤ length (s .processes)) where
+  -- word 0: place
+  pub put-place : (x : Place) → set (pack s) (process-at (length (s .cores)) p 0) (place-number x) ≡ pack (put place p x s)
+  put-place x = process-law s p _ (λ j. j) ((0, place-number x) ∷ []) low high tt refl
+
+  -- word 1: data
+  pub put-data-word : (v : ℕ) → set (pack s) (process-at (length (s .cores)) p 1) v ≡ pack (put data-word p v s)
+  put-data-word v = process-law s p _ (λ j. j) ((1, v) ∷ []) low high tt refl
+
+  -- words 2 to 5: alternation state
+  pub put-alternation : (v : Alternation) (ws : List (ℕ × ℕ)) → T (below 4 (λ j. j) ws)
+      → writes ws (λ j. j) (alternation-words (process-of s p .alternation)) ≡ alternation-words v
+      → writes ws (λ j. process-at (length (s .cores)) p (2 + j)) (pack s) ≡ pack (put alternation p v s)
+  put-alternation v ws b turned =
+      let r = process-of s p in
+      part-law s p _ ws (place-number (r .place) ∷ r .data-word ∷ []) (alternation-words (r .alternation)) _ (progress-words (r .progress) ++ link-words s p)
+      2 4 low high refl refl (lit≤ tt) b turned refl refl
+
+  -- words 6 to 19: progress
+  pub put-progress : (v : Progress) (ws : List (ℕ × ℕ)) → T (below 14 (λ j. j) ws)
+      → writes ws (λ j. j) (progress-words (process-of s p .progress)) ≡ progress-words v
+      → writes ws (λ j. process-at (length (s .cores)) p (6 + j)) (pack s) ≡ pack (put progress p v s)
+  put-progress v ws b turned =
+      let r = process-of s p in
+      part-law s p _ ws (place-number (r .place) ∷ r .data-word ∷ alternation-words (r .alternation)) (progress-words (r .progress)) _ (link-words s p)
+      6 14 low high refl (length-progress-words (r .progress)) (lit≤ tt) b turned refl refl
+
+-- Channels
+
+-- the state with another channel of number c
+abbrev pub with-channel : ℕ → Channel → State → State
+with-channel c r s = record { cores = s .cores; processes = s .processes; channels = set-nth (s .channels) c r }
+
+-- Writes that turn a channel's words into another's
+pub channel-law : (s : State) (c : ℕ) (r : Channel) (at : ℕ → ℕ) (ws : List (ℕ × ℕ)) → 1 ≤ c → c ≤ length (s .channels) → T (below 4 at ws)
+    → writes ws at (channel-list (channel-of s c)) ≡ channel-list r
+    → writes ws (λ f. channel-at (length (s .cores)) (length (s .processes)) c (at f)) (pack s) ≡ pack (with-channel c r s)
+unfolding process-words next-link head-link batch-link channel-words
+channel-law s c r at ws low high b turned =
+    writes-law channels s (with-channel c r s) c at ws (low, high) b same-dims
+    (record {
+      header = λ f b′. ap (λ (l : List ℕ). getD l f 0) (same-header s (with-channel c r s) same-dims);
+      core = λ i f b′ b″. refl;
+      process = λ i f low′ b′ b″. refl;
+      channel = λ i f low′ b′ b″. in-block c i _ _ (λ x. getD (channel-list (channel-of (with-channel c r s) x)) f 0) refl (λ ne. ap (λ (x : Channel). getD (channel-list x) f 0) (sym (nth-set-other (s .channels) c i r no-channel ne)));
+    })
+    (turned ∙ ap channel-list (sym (nth-set-same (s .channels) c r no-channel low high)))
+  where
+    same-dims : dims (with-channel c r s) ≡ dims s
+    same-dims = ap (λ (n : ℕ). record { K = length (s .cores); N = length (s .processes); M = n }) (length-set-nth (s .channels) c r)
+
+module _ (s : State) (c : ℕ) (low : 1 ≤ c) (high : c ≤ length (s .channels)) where
+  -- word 2: channel word
+  pub put-channel-word : (w : ChannelWord)
+      → set (pack s) (channel-at (length (s .cores)) (length (s .processes)) c 2) (word-number w) ≡ pack (put channel-word c w s)
+  put-channel-word w = channel-law s c _ (λ j. j) ((2, word-number w) ∷ []) low high tt refl
+
+  -- word 3: transfers
+  pub put-transfers : (n : ℕ) → set (pack s) (channel-at (length (s .cores)) (length (s .processes)) c 3) n ≡ pack (put transfers c n s)
+  put-transfers n = channel-law s c _ (λ j. j) ((3, n) ∷ []) low high tt refl
+
+-- Cores
+
+-- Writes that turn a core's words into those of a core with the same queues
+pub put-core : (s : State) (k : ℕ) (c : Core) (at : ℕ → ℕ) (ws : List (ℕ × ℕ)) → k < length (s .cores) → T (below 16 at ws)
+    → core-of s k .active ≡ c .active → core-of s k .run-queue ≡ c .run-queue
+    → writes ws at (core-list (core-of s k)) ≡ core-list c
+    → writes ws (λ f. core-at k (at f)) (pack s) ≡ pack (put core k c s)
+unfolding next-link head-link batch-link
+put-core s k c at ws inside b same-active same-batches turned =
+    held-last s k c (writes ws at (core-list (core-of s k))) (links-of s) _ inside (held-writes s k inside at ws b (held-first s k inside)) turned
+    (record {
+      next = λ p low high. share-kept s k c inside (next-in p) (ap₂ (λ a r. total (follows p) (a ∷ r)) same-active same-batches);
+      batch-last = λ p low high. share-kept s k c inside (head-in last p) (ap (total (if-head last p)) same-batches);
+      batch-size = λ p low high. share-kept s k c inside (head-in length p) (ap (total (if-head length p)) same-batches);
+      next-head = λ p low high. share-kept s k c inside (next-head-in p) (ap (λ r. follows p (heads r)) same-batches);
+    })
