@@ -128,15 +128,15 @@ length-work-words (free no-task) = refl
 length-work-words (free (trigger q)) = refl
 length-work-words (free (wake-up q)) = refl
 
-length-core-words : (c : Core) → length (core-words c) ≡ 16
+pub length-core-words : (c : Core) → length (core-words c) ≡ 16
 unfolding core-words
 length-core-words c = simp length-append (omega (arith, length-work-words (c .work)))
 
-length-process-words : (s : State) (p : ℕ) → length (process-words s p) ≡ 24
+pub length-process-words : (s : State) (p : ℕ) → length (process-words s p) ≡ 24
 unfolding process-words
 length-process-words s p = simp length-append (omega (arith, length-progress-words (process-of s p .progress)))
 
-length-channel-words : (c : Channel) → length (channel-words c) ≡ 4
+pub length-channel-words : (c : Channel) → length (channel-words c) ≡ 4
 unfolding channel-words
 length-channel-words c = refl
 
