@@ -1,0 +1,81 @@
+// What several steps share: a stage, a task, falling asleep, an outcome due.
+ghost use mathlib.Core.Path.{_≡_};
+ghost use Prim.Native.Nat.{ℕ, _+_, _*_, _-_, _≤_, _<_};
+ghost use lib.ListN.{length, getD, set};
+ghost use Rattle.rules.specs.Numbers.{MOVED, SLEPT, yes-with};
+ghost use Rattle.rules.specs.Packing.{core-at, process-at};
+ghost use Rattle.answers.specs.Four.{four};
+ghost use Rattle.table.specs.Has.{HasCore, HasProcess};
+ghost use Rattle.parts.specs.Shared.{task-table, asleep-table, cleared, due-table};
+
+use answers::Reply;
+
+// The request of process p goes on at the stage of number n.
+pub fn move_on(t: &mut [u32], cores: usize, p: u32, n: u32) -> Reply
+    requires { ⌜ HasProcess (now t) cores p ⌝ }
+    ensures table { λ r. ⌜ now (t .exit) ≡ set (now (t .entry)) (process-at cores p 6) n ⌝ }
+    ensures reply { λ r. ⌜ r ≡ four (yes-with MOVED) ⌝ }
+{
+    let i = p as usize;
+    t[8 + 16 * cores + 24 * (i - 1) + 6] = n;
+    answers::moved()
+}
+
+// Core k runs nothing and has a task (0 none, 1 trigger, 2 wake), of process q.
+pub fn has_task(t: &mut [u32], k: usize, task: u32, q: u32)
+    requires { ⌜ HasCore (now t) k ⌝ }
+    ensures { λ r. ⌜ now (t .exit) ≡ task-table (now (t .entry)) k task q ⌝ }
+{
+    t[8 + 16 * k + 0] = 0;
+    t[8 + 16 * k + 1] = task;
+    t[8 + 16 * k + 2] = q;
+}
+
+// Process p of core k falls asleep, and the core has a task.
+pub fn falls_asleep(t: &mut [u32], cores: usize, k: usize, p: u32, task: u32, q: u32) -> Reply
+    requires { ⌜ HasProcess (now t) cores p ⌝ ∗ ⌜ HasCore (now t) k ⌝ }
+    ensures table { λ r. ⌜ now (t .exit) ≡ asleep-table (now (t .entry)) cores k p task q ⌝ }
+    ensures reply { λ r. ⌜ r ≡ four (yes-with (SLEPT p)) ⌝ }
+{
+    let i = p as usize;
+    t[8 + 16 * cores + 24 * (i - 1) + 0] = 3;
+    t[8 + 16 * k + 0] = 0;
+    t[8 + 16 * k + 1] = task;
+    t[8 + 16 * k + 2] = q;
+    answers::slept(p)
+}
+
+// Process p has nothing in hand.
+pub fn clear_progress(t: &mut [u32], cores: usize, p: u32)
+    requires { ⌜ HasProcess (now t) cores p ⌝ }
+    ensures { λ r. ⌜ now (t .exit) ≡ cleared (now (t .entry)) cores p ⌝ }
+{
+    let i = p as usize;
+    let at = 8 + 16 * cores + 24 * (i - 1);
+    t[at + 6] = 0;
+    t[at + 7] = 0;
+    t[at + 8] = 0;
+    t[at + 9] = 0;
+    t[at + 10] = 0;
+    t[at + 11] = 0;
+    t[at + 12] = 0;
+    t[at + 13] = 0;
+    t[at + 14] = 0;
+    t[at + 15] = 0;
+    t[at + 16] = 0;
+    t[at + 17] = 0;
+    t[at + 18] = 0;
+    t[at + 19] = 0;
+}
+
+// Process p has an outcome due, of this number and this channel.
+pub fn set_due(t: &mut [u32], cores: usize, p: u32, number: u32, c: u32)
+    requires { ⌜ HasProcess (now t) cores p ⌝ }
+    ensures { λ r. ⌜ now (t .exit) ≡ due-table (now (t .entry)) cores p number c ⌝ }
+{
+    clear_progress(t, cores, p);
+    let i = p as usize;
+    let at = 8 + 16 * cores + 24 * (i - 1);
+    t[at + 6] = number;
+    t[at + 7] = c;
+}
