@@ -1,0 +1,4 @@
+pub mod Tests
+pub mod Sums
+pub mod Reflect
+pub mod Changes
