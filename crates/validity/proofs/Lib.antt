@@ -2,3 +2,4 @@ pub mod Tests
 pub mod Sums
 pub mod Reflect
 pub mod Changes
+pub mod Places
