@@ -9,7 +9,7 @@ use lib.Dec.{T}
 use lib.ListN.{length, getD, set, length-set}
 use lib.Seq.{getD-set-same, getD-set-other, map-set-same}
 use Rattle.rules.specs.Lists.{nth, set-nth, within, all, total, times}
-use Rattle.rules.specs.State.{Process, Core, queues-of, Ends, Channel, State, Wiring, wiring}
+use Rattle.rules.specs.State.{Place, Progress, Alternation, Process, Core, queues-of, Ends, Channel, State, Wiring, wiring}
 use Rattle.rules.specs.Items.{core, put, no-core, no-process, no-channel, core-of, process-of, channel-of}
 use Rattle.rules.specs.Soundness.{is-process, runs-it, on-cores, in-queues, valid-core, valid-channel}
 use Rattle.validity.proofs.Tests.{tests, all-set}
@@ -43,6 +43,19 @@ module _ {A : Type 0} where
 -- the state with the record of process p changed by f
 abbrev pub changed : ℕ → (Process → Process) → State → State
 changed p f s = record { cores = s .cores; processes = set-nth (s .processes) p (f (process-of s p)); channels = s .channels }
+
+-- a process's record with another field
+abbrev pub with-place : Place → Process → Process
+with-place v r = record { place = v; data-word = r .data-word; alternation = r .alternation; progress = r .progress }
+
+abbrev pub with-data : ℕ → Process → Process
+with-data v r = record { place = r .place; data-word = v; alternation = r .alternation; progress = r .progress }
+
+abbrev pub with-alternation : Alternation → Process → Process
+with-alternation v r = record { place = r .place; data-word = r .data-word; alternation = v; progress = r .progress }
+
+abbrev pub with-progress : Progress → Process → Process
+with-progress v r = record { place = r .place; data-word = r .data-word; alternation = r .alternation; progress = v }
 
 -- All is valid but perhaps process p, which has the record r, runs on `here` cores and stands `there` times in a queue.
 pub record Open (w : Wiring) (p : ℕ) (r : Process) (here there : ℕ) (s : State) : Type 0 where

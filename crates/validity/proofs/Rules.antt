@@ -1,0 +1,89 @@
+-- What a rule comes to, and the parts that the rules of a running process are made of.
+use Prim.Native.Nat.{ℕ, zero, suc, _+_, _≤_, _<_}
+use native.Mathlib.Omega.{arith}
+use mathlib.Core.Path.{_≡_, refl, ap, _∙_}
+use mathlib.Core.Bool.{true}
+use mathlib.Core.List.{List, [], _∷_, _++_}
+use lib.Dec.{T}
+use lib.ListN.{length}
+use lib.Seq.{getD-set-same}
+use Rattle.rules.specs.Lists.{within, all}
+use Rattle.rules.specs.Numbers.{Answer}
+use Rattle.rules.specs.State.{
+  Place,
+  running,
+  queued,
+  asleep,
+  ended,
+  Stage,
+  Outcome,
+  go,
+  sent,
+  got,
+  chose,
+  Progress,
+  nothing,
+  doing,
+  due,
+  Alternation,
+  Process,
+  Task,
+  runs,
+  free,
+  Core,
+  ChannelWord,
+  State,
+  Wiring,
+}
+use Rattle.rules.specs.Items.{core, place, data-word, alternation, progress, channel-word, transfers, get, put, no-core, core-of, process-of}
+use Rattle.rules.specs.Rule.{Rule, _>>=_, _>>_, Ran, accepted, refused, run}
+use Rattle.rules.specs.Steps.{with-work, with-active, next, sleeps, reports, joins, must-sleep, wakes}
+use Rattle.rules.specs.Soundness.{is-process, valid-stage, valid-progress, fits, on-cores, in-queues, valid-work, valid-word}
+use Rattle.validity.proofs.Reflect.{Good, Valid}
+use Rattle.validity.proofs.Changes.{changed, with-place, with-data, with-alternation, with-progress, close, change, open-at}
+use Rattle.validity.proofs.Places.{good-of, core-good, amend, same-standing, leaves, joined, Runs, is-running, running-good, running-open}
+use Rattle.validity.proofs.Channels.{word-written, transfers-written}
+
+-- what holds of the state that a rule accepts
+abbrev pub Accepts : {A : Type 0} → (State → Type 0) → Ran A → Type 0
+Accepts P (accepted a s) = P s
+Accepts P (refused r) = Unit {0}
+
+module _ {w : Wiring} {s : State} (v : Valid w s) (p : ℕ) (named : T (is-process w p)) where
+  -- a process's data word
+  pub data-written : (n : ℕ) → n < 4294967296 → Valid w (put data-word p n s)
+  data-written n small =
+      amend p (with-data n) v named
+        (λ here there g. record { word = small; count = g .count; in-hand = g .in-hand; fitting = g .fitting; standing = g .standing })
+
+  -- its alternation state
+  pub alternation-written : (a : Alternation) → a .count ≤ 9 → Valid w (put alternation p a s)
+  alternation-written a small =
+      amend p (with-alternation a) v named
+        (λ here there g. record { word = g .word; count = small; in-hand = g .in-hand; fitting = g .fitting; standing = g .standing })
+
+module _ {w : Wiring} {k p : ℕ} {s : State} (h : Runs w k p s) where
+  -- p's progress
+  pub progress-written : (x : Progress) → T (valid-progress w p x) → T (fits running x) → Valid w (put progress p x s)
+  progress-written x its fit =
+      amend p (with-progress x) (h .valid) (h .named)
+        (λ here there g. record { word = g .word; count = g .count; in-hand = its; fitting = rw (is-running h) fit; standing = g .standing })
+
+  -- the next stage
+  pub next-keeps : (x : Stage) → T (valid-stage w p x) → Accepts (Valid w) (run (next p x) s)
+  next-keeps x its = progress-written (doing x) its tt
+
+  -- a report
+  pub reports-keeps : (o : Outcome) → Accepts (Valid w) (run (reports p o) s)
+  reports-keeps go = progress-written nothing tt tt
+  reports-keeps (sent c) = progress-written nothing tt tt
+  reports-keeps (got c) = progress-written nothing tt tt
+  reports-keeps (chose c) = progress-written nothing tt tt
+
+  -- p falls asleep
+  pub sleeps-keeps : (then : Progress) (t : Task) → T (valid-progress w p then) → T (fits asleep then) → T (valid-work w (free t))
+      → Accepts (Valid w) (run (sleeps k p then t) s)
+  sleeps-keeps then t its fit task =
+      let g = running-good h in
+      close (leaves k (change (with-place asleep) (change (with-progress then) (running-open h))) (h .on) t (h .work) task refl)
+        (record { word = g .word; count = g .count; in-hand = its; fitting = fit; standing = tt })
