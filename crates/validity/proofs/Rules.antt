@@ -39,6 +39,7 @@ use Rattle.rules.specs.Items.{core, place, data-word, alternation, progress, ch
 use Rattle.rules.specs.Rule.{Rule, _>>=_, _>>_, Ran, accepted, refused, run}
 use Rattle.rules.specs.Steps.{with-work, with-active, next, sleeps, reports, joins, must-sleep, wakes}
 use Rattle.rules.specs.Soundness.{is-process, valid-stage, valid-progress, fits, on-cores, in-queues, valid-work, valid-word}
+use Rattle.validity.proofs.Tests.{tests}
 use Rattle.validity.proofs.Reflect.{Good, Valid}
 use Rattle.validity.proofs.Changes.{changed, with-place, with-data, with-alternation, with-progress, close, change, open-at}
 use Rattle.validity.proofs.Places.{good-of, core-good, amend, same-standing, leaves, joined, Runs, is-running, running-good, running-open}
@@ -87,3 +88,46 @@ module _ {w : Wiring} {k p : ℕ} {s : State} (h : Runs w k p s) where
       let g = running-good h in
       close (leaves k (change (with-place asleep) (change (with-progress then) (running-open h))) (h .on) t (h .work) task refl)
         (record { word = g .word; count = g .count; in-hand = its; fitting = fit; standing = tt })
+
+module _ {w : Wiring} {s : State} (k : ℕ) (v : Valid w s) (on : k < w .K) where
+  -- a core just written is as written
+  pub core-written : (c : Core) → core-of (put core k c s) k ≡ c
+  core-written c = getD-set-same (s .cores) k c no-core (omega (arith, ap (λ (x : Wiring). x .K) (v .wired)))
+
+  -- a core that runs nothing takes another task
+  pub task-given : (t t′ : Task) → core-of s k .work ≡ free t → T (valid-work w (free t′)) → Valid w (put core k (with-work (free t′) (core-of s k)) s)
+  task-given t t′ work task =
+      let g = core-good 0 k v on in
+      same-standing k (with-work (free t′) (core-of s k)) v on
+        (record { working = task; dispatching = g .dispatching; batches = g .batches; active = g .active; waiting = g .waiting })
+        (λ q. record { works = rw work; queues = refl })
+
+  -- q is woken: where it sleeps, and there it joins the active queue
+  pub wakes-keeps : {A : Type 0} (P : State → Type 0) (q : ℕ) (rest : Rule A) → T (is-process w q)
+      → (let s′ = put core k (with-active (core-of s k .active ++ (q ∷ [])) (core-of s k)) (put place q queued s) in Valid w s′ → Accepts P (run rest s′))
+      → Accepts P (run (wakes k q >> rest) s)
+  wakes-keeps P q rest named then = by-place (get place s q) refl
+    where
+      fits-queue : (x : Progress) → T (fits asleep x) → T (fits queued x)
+      fits-queue nothing h = h
+      fits-queue (doing x) h = h
+      fits-queue (due o) h = h
+      woken : get place s q ≡ asleep → Valid w (put core k (with-active (core-of s k .active ++ (q ∷ [])) (core-of s k)) (put place q queued s))
+      woken is-asleep =
+          let g = good-of q v named in
+          let stood = simp tests at (rw is-asleep at (g .standing)) in
+          close (joined k (change (with-place queued) (open-at q v named)) on (stood .1))
+            (
+              record {
+                word = g .word;
+                count = g .count;
+                in-hand = g .in-hand;
+                fitting = fits-queue (process-of s q .progress) (rw is-asleep at (g .fitting));
+                standing = rw (stood .0) tt;
+              }
+            )
+      by-place : (x : Place) → get place s q ≡ x → Accepts P (run (must-sleep x >> joins k q >> rest) s)
+      by-place running e = tt
+      by-place queued e = tt
+      by-place asleep e = then (woken e)
+      by-place ended e = tt
