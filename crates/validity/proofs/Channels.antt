@@ -1,7 +1,7 @@
 -- The channels of a valid state, and what may be written into one.
 use Prim.Native.Nat.{ℕ, zero, suc, _+_, _≤_, _<_}
 use native.Mathlib.Omega.{arith}
-use mathlib.Core.Path.{_≡_, refl, ap, _∙_}
+use mathlib.Core.Path.{_≡_, refl, sym, ap, _∙_}
 use mathlib.Core.Bool.{false, true, _&&_}
 use lib.Dec.{T, eqb}
 use lib.ListN.{length, length-map}
@@ -9,7 +9,7 @@ use Rattle.rules.specs.Lists.{if_then_else_, nth, within, all}
 use Rattle.rules.specs.State.{Ends, ChannelWord, Channel, State, Wiring}
 use Rattle.rules.specs.Items.{channel-word, transfers, put, no-channel, channel-of}
 use Rattle.rules.specs.Soundness.{is-process, valid-word, valid-channel}
-use Rattle.validity.proofs.Tests.{tests, and-means, leb-means, all-at}
+use Rattle.validity.proofs.Tests.{tests, and-means, leb-means, all-nth}
 use Rattle.validity.proofs.Reflect.{Valid}
 use Rattle.validity.proofs.Changes.{set-channel}
 
@@ -30,11 +30,9 @@ good-channel-tested w c g = simp (and-means, leb-means) ((simp (and-means, leb-m
 module _ {w : Wiring} {s : State} (c : ℕ) (v : Valid w s) (inside : T (within 1 (length (w .ends)) c)) where
   -- the channel of a number in range is as it should be
   pub channel-good : GoodChannel w (channel-of s c)
-  channel-good = good-channel w (channel-of s c) (go c (omega (arith, simp tests at inside, ap (λ (x : Wiring). length (x .ends)) (v .wired), length-map (s .channels) (λ (x : Channel). x .ends))))
-    where
-      go : (c : ℕ) → (1 ≤ c) × (c ≤ length (s .channels)) → T (valid-channel w (channel-of s c))
-      go zero b = absurd (omega arith)
-      go (suc i) b = all-at (valid-channel w) (s .channels) i no-channel (v .channels) (omega arith)
+  channel-good =
+      let as-many : length (s .channels) ≡ length (w .ends) = sym (length-map (s .channels) (λ (x : Channel). x .ends)) ∙ ap (λ (x : Wiring). length (x .ends)) (v .wired) in
+      good-channel w (channel-of s c) (all-nth (valid-channel w) (s .channels) c no-channel (v .channels) (rw as-many inside))
 
   -- another word, of a process, may stand in it
   pub word-written : (x : ChannelWord) → T (valid-word w x) → Valid w (put channel-word c x s)

@@ -5,3 +5,5 @@ pub mod Changes
 pub mod Places
 pub mod Channels
 pub mod Rules
+pub mod Steps
+pub mod Choice

@@ -50,6 +50,10 @@ abbrev pub Accepts : {A : Type 0} → (State → Type 0) → Ran A → Type 0
 Accepts P (accepted a s) = P s
 Accepts P (refused r) = Unit {0}
 
+-- the same process runs in another valid state with the same work on its core
+pub still-runs : {w : Wiring} {k p : ℕ} {s s′ : State} → Runs w k p s → core-of s′ k .work ≡ core-of s k .work → Valid w s′ → Runs w k p s′
+still-runs h same v = record { valid = v; on = h .on; named = h .named; work = same ∙ h .work }
+
 module _ {w : Wiring} {s : State} (v : Valid w s) (p : ℕ) (named : T (is-process w p)) where
   -- a process's data word
   pub data-written : (n : ℕ) → n < 4294967296 → Valid w (put data-word p n s)

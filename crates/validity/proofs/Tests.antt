@@ -8,7 +8,7 @@ use mathlib.Core.Bool.{Bool, true, false, _&&_}
 use mathlib.Core.List.{List, [], _∷_, _++_}
 use lib.Dec.{T, eqb, leb, leb→le, le→leb, eqb→eq, eqb-refl}
 use lib.ListN.{length, getD, set}
-use Rattle.rules.specs.Lists.{if_then_else_, within, all, tabulate, from}
+use Rattle.rules.specs.Lists.{if_then_else_, nth, within, all, tabulate, from}
 
 -- a conjunction holds where both halves do
 pub and-means : (a b : Bool) → T (a && b) ↔ (T a × T b)
@@ -36,6 +36,11 @@ module _ {A : Type 0} (f : A → Bool) where
   all-at [] i d h b = absurd (omega arith)
   all-at (x ∷ xs) zero d h b = (simp and-means at h) .0
   all-at (x ∷ xs) (suc i) d h b = all-at xs i d ((simp and-means at h) .1) (omega arith)
+
+  -- counted from 1
+  pub all-nth : (l : List A) (n : ℕ) (d : A) → T (all f l) → T (within 1 (length l) n) → T (f (nth l n d))
+  all-nth l zero d h b = absurd (omega (arith, simp tests at b))
+  all-nth l (suc i) d h b = all-at l i d h (omega (arith, simp tests at b))
 
   -- it goes on holding of each where one is replaced by one of which it holds
   pub all-set : (l : List A) (i : ℕ) (a : A) → T (all f l) → T (f a) → T (all f (set l i a))
