@@ -120,21 +120,22 @@ module _ {w : Wiring} {k p : ℕ} {s : State} (h : Runs w k p s) where
     own-guard : (i : ℕ) → T (in-list gs i) → T (own-end w receiving p (guard gs i))
     own-guard i inside = all-nth (own-end w receiving p) gs i 0 ((simp and-means at own) .0 .1) inside
 
+    -- a stage at a guard
+    at-guard : (i : ℕ) → T (in-list gs i) → T (valid-enabling w p gs i)
+    at-guard i inside = and-means (own-guards w p gs) (in-list gs i) .1 (own, inside)
+
     module _ (i : ℕ) (inside : T (in-list gs i)) where
       -- the channel is one of the table's
       numbered : T (within 1 (length (w .ends)) (guard gs i))
       numbered = and-means (within 1 (length (w .ends)) (guard gs i)) _ .0 (own-guard i inside) .0
 
-      -- the stages at this guard
-      enabling : T (valid-enabling w p gs i)
-      enabling = and-means (own-guards w p gs) (in-list gs i) .1 (own, inside)
+      -- the next guard, if there is one, lies in the list
+      next-inside : ltb i (length gs) ≡ true → T (in-list gs (i + 1))
+      next-inside e = simp tests (omega arith, omega (arith, ltb-true i (length gs) e))
 
-      -- and after it
+      -- the stage after this guard
       enabled : T (valid-stage w p (enable-next gs i))
-      enabled =
-          either-stage w p (ltb i (length gs)) (enable-look gs (i + 1)) (wait gs)
-            (λ e. and-means (own-guards w p gs) (in-list gs (i + 1)) .1 (own, simp tests (omega arith, omega (arith, ltb-true i (length gs) e))))
-            own
+      enabled = either-stage w p (ltb i (length gs)) (enable-look gs (i + 1)) (wait gs) (λ e. at-guard (i + 1) (next-inside e)) own
 
       -- the word of the guard
       its-word : (x : ChannelWord) → T (valid-word w x) → Runs w k p (put channel-word (guard gs i) x s)
@@ -144,9 +145,87 @@ module _ {w : Wiring} {k p : ℕ} {s : State} (h : Runs w k p s) where
       enable-look-keeps = next-keeps h _ (by-word (get channel-word s (guard gs i)))
         where
           by-word : (x : ChannelWord) → T (valid-stage w p (after-enable-look gs i x))
-          by-word nobody = enabling
-          by-word (plain q) = enabling
-          by-word (choosing q) = enabling
+          by-word nobody = at-guard i inside
+          by-word (plain q) = at-guard i inside
+          by-word (choosing q) = at-guard i inside
 
       pub raise-keeps : Accepts (Valid w) (run (raise-step p gs i) s)
-      raise-keeps = raised-keeps (Valid w) s _ _ count-small (λ m small. next-keeps (counted _ small) _ enabling)
+      raise-keeps = raised-keeps (Valid w) s _ _ count-small (λ m small. next-keeps (counted _ small) _ (at-guard i inside))
+
+      pub place-keeps : Accepts (Valid w) (run (place-step p gs i) s)
+      place-keeps = by-word (get channel-word s (guard gs i))
+        where
+          by-word : (x : ChannelWord) → Accepts (Valid w) (run (placed p gs i x) s)
+          by-word nobody = next-keeps (its-word (choosing p) (h .named)) _ enabled
+          by-word (plain q) = next-keeps h _ (at-guard i inside)
+          by-word (choosing q) = next-keeps h _ (at-guard i inside)
+
+      pub ready-from-look-keeps : Accepts (Valid w) (run (ready-from-look-step p gs i) s)
+      ready-from-look-keeps = next-keeps (counted _ count-small) _ enabled
+
+      pub ready-from-place-keeps : Accepts (Valid w) (run (ready-from-place-step p gs i) s)
+      ready-from-place-keeps = lowered-keeps (Valid w) s _ _ count-small (λ m small. next-keeps (counted _ small) _ enabled)
+
+      module _ (r : Option ℕ) (ready : T (ready-in-list gs r)) where
+        -- after this guard comes the next, or the end of disabling
+        disabled-next : (r′ : Option ℕ) → T (ready-in-list gs r′) → T (valid-stage w p (disable-next gs i r′))
+        disabled-next r′ ready′ =
+            either-stage w p (ltb i (length gs)) (disable gs (i + 1) r′) (finish gs r′)
+              (λ e. and-means (own-guards w p gs && in-list gs (i + 1)) (ready-in-list gs r′) .1 (at-guard (i + 1) (next-inside e), ready′))
+              (and-means (own-guards w p gs) (ready-in-list gs r′) .1 (own, ready′))
+
+        -- the first ready guard lies in the list
+        first-kept : (r′ : Option ℕ) → T (ready-in-list gs r′) → T (ready-in-list gs (keep-first r′ i))
+        first-kept none its = inside
+        first-kept (some j) its = its
+
+        pub disable-keeps : Accepts (Valid w) (run (disable-step p gs i r) s)
+        disable-keeps = by-word (get channel-word s (guard gs i))
+          where
+            lowers : T (valid-stage w p (lower gs i r))
+            lowers = and-means (own-guards w p gs && in-list gs i) (ready-in-list gs r) .1 (at-guard i inside, ready)
+            by-owner : (q : ℕ) (b : Bool)
+                → Accepts (Valid w) (run (if b then (becomes channel-word (guard gs i) nobody >> next p (lower gs i r)) else next p (disable-next gs i r)) s)
+            by-owner q true = next-keeps (its-word nobody tt) _ lowers
+            by-owner q false = next-keeps h _ (disabled-next r ready)
+            by-word : (x : ChannelWord) → Accepts (Valid w) (run (disabled p gs i r x) s)
+            by-word nobody = next-keeps h _ (disabled-next r ready)
+            by-word (plain q) = next-keeps h _ (disabled-next (keep-first r i) (first-kept r ready))
+            by-word (choosing q) = by-owner q (eqb q p)
+
+        pub lower-keeps : Accepts (Valid w) (run (lower-step p gs i r) s)
+        lower-keeps = lowered-keeps (Valid w) s _ _ count-small (λ m small. next-keeps (counted _ small) _ (disabled-next r ready))
+
+    pub wait-keeps : Accepts (Valid w) (run (wait-step k p gs) s)
+    wait-keeps = by-flag (get alternation s p .not-ready)
+      where
+        first : T (valid-stage w p (disable gs 1 none))
+        first = and-means (valid-enabling w p gs 1) true .1 (at-guard 1 (simp tests (omega arith, (simp tests at own) .0 .0 .0)), tt)
+        by-flag : (b : Bool) → Accepts (Valid w) (run (waits k p gs (get alternation s p) b) s)
+        by-flag true = sleeps-keeps (counted _ count-small) _ no-task first tt tt
+        by-flag false = next-keeps (counted _ count-small) _ first
+
+    pub finish-keeps : (r : Option ℕ) → T (ready-in-list gs r) → Accepts (Valid w) (run (finish-step k p gs r) s)
+    finish-keeps none ready = tt
+    finish-keeps (some i) ready = lowered-keeps (Valid w) s _ _ count-small (λ m small. ends m (counted _ small))
+      where
+        ends : {s : State} (m : ℕ) → Runs w k p s → Accepts (Valid w) (run (finished k p (guard gs i) m) s)
+        ends zero h′ = reports-keeps h′ (chose (guard gs i))
+        ends (suc n) h′ = sleeps-keeps h′ (due (chose (guard gs i))) no-task (own-guard i ready) tt tt
+
+-- The kernel tasks
+
+module _ {w : Wiring} {k : ℕ} {s : State} (q : ℕ) (v : Valid w s) (on : k < w .K) (named : T (is-process w q)) where
+  pub trigger-keeps : core-of s k .work ≡ free (trigger q) → Accepts (Valid w) (run (trigger-step k q) s)
+  trigger-keeps work =
+      lowered-keeps (Valid w) s _ _ (good-of q v named .count)
+        (λ m small. task-given k (alternation-written v q named _ small) on (trigger q) _ work (by-test (get alternation s q .waiting || eqb m 0)))
+    where
+      by-test : (b : Bool) → T (valid-work w (free (if b then wake-up q else no-task)))
+      by-test true = named
+      by-test false = tt
+
+  pub wake-task-keeps : core-of s k .work ≡ free (wake-up q) → Accepts (Valid w) (run (wake-task-step k q) s)
+  wake-task-keeps work =
+      wakes-keeps k v on (Valid w) q _ named
+        (λ v′. task-given k v′ on (wake-up q) no-task (ap (λ (x : Core). x .work) (core-written k v on _) ∙ work) tt)
