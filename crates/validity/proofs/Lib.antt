@@ -7,3 +7,4 @@ pub mod Channels
 pub mod Rules
 pub mod Steps
 pub mod Choice
+pub mod Scheduler

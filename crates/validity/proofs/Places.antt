@@ -42,7 +42,7 @@ stands-running asleep here there h b = absurd (omega (arith, simp tests at h))
 stands-running ended here there h b = absurd (omega (arith, simp tests at h))
 
 -- who stands in a queue is queued, there once and on no core
-stands-queued : (x : Place) (here there : ℕ) → T (stands here there x) → 1 ≤ there → (x ≡ queued) × (here ≡ 0) × (there ≡ 1)
+pub stands-queued : (x : Place) (here there : ℕ) → T (stands here there x) → 1 ≤ there → (x ≡ queued) × (here ≡ 0) × (there ≡ 1)
 stands-queued running here there h b = absurd (omega (arith, simp tests at h))
 stands-queued queued here there h b = let h′ = simp tests at h in (refl, h′ .0, h′ .1)
 stands-queued asleep here there h b = absurd (omega (arith, simp tests at h))

@@ -50,6 +50,13 @@ abbrev pub Accepts : {A : Type 0} → (State → Type 0) → Ran A → Type 0
 Accepts P (accepted a s) = P s
 Accepts P (refused r) = Unit {0}
 
+-- whatever is reported, nothing is left in hand
+pub reports-clears : (P : State → Type 0) (s : State) (p : ℕ) (o : Outcome) → P (put progress p nothing s) → Accepts P (run (reports p o) s)
+reports-clears P s p go h = h
+reports-clears P s p (sent c) h = h
+reports-clears P s p (got c) h = h
+reports-clears P s p (chose c) h = h
+
 -- the same process runs in another valid state with the same work on its core
 pub still-runs : {w : Wiring} {k p : ℕ} {s s′ : State} → Runs w k p s → core-of s′ k .work ≡ core-of s k .work → Valid w s′ → Runs w k p s′
 still-runs h same v = record { valid = v; on = h .on; named = h .named; work = same ∙ h .work }
@@ -80,10 +87,7 @@ module _ {w : Wiring} {k p : ℕ} {s : State} (h : Runs w k p s) where
 
   -- a report
   pub reports-keeps : (o : Outcome) → Accepts (Valid w) (run (reports p o) s)
-  reports-keeps go = progress-written nothing tt tt
-  reports-keeps (sent c) = progress-written nothing tt tt
-  reports-keeps (got c) = progress-written nothing tt tt
-  reports-keeps (chose c) = progress-written nothing tt tt
+  reports-keeps o = reports-clears (Valid w) s p o (progress-written nothing tt tt)
 
   -- p falls asleep
   pub sleeps-keeps : (then : Progress) (t : Task) → T (valid-progress w p then) → T (fits asleep then) → T (valid-work w (free t))
