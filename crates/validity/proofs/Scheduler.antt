@@ -4,12 +4,14 @@ use native.Mathlib.Omega.{arith}
 use mathlib.Core.Path.{_≡_, refl, sym, ap, _∙_}
 use mathlib.Core.Bool.{Bool, true, false}
 use mathlib.Core.List.{List, [], _∷_, _++_}
+use mathlib.Core.Option.{Option}
 use lib.Dec.{T}
 use lib.ListN.{length}
 use Rattle.rules.specs.Lists.{all, total, times}
 use Rattle.rules.specs.State.{
   running,
   queued,
+  Way,
   Stage,
   look,
   park,
@@ -38,6 +40,7 @@ use Rattle.rules.specs.State.{
   runs,
   free,
   Core,
+  queues-of,
   State,
   Wiring,
 }
@@ -51,11 +54,13 @@ use Rattle.rules.specs.Soundness.{
   in-list,
   ready-in-list,
   valid-enabling,
+  valid-disabling,
   valid-stage,
   valid-progress,
   fits,
   on-cores,
   in-queues,
+  valid-work,
   not-empty,
 }
 use Rattle.validity.proofs.Tests.{tests, and-means, all-append}
@@ -134,3 +139,99 @@ module _ {w : Wiring} {k : ℕ} {s : State} (v : Valid w s) (on : k < w .K) wher
           }
         )
         (λ q. record { works = refl; queues = rw (active, run-queue) (omega arith) })
+
+  -- the head of the active queue is queued, once
+  head-open : (p : ℕ) (rest : List ℕ) → core-of s k .active ≡ p ∷ rest → Open w p (process-of s p) 0 1 s
+  head-open p rest active =
+      record { rest = open-at p v named .rest; named = named; its-record = refl; its-cores = stood .1; its-queues = stood .2 }
+    where
+      named : T (is-process w p)
+      named = and-means (is-process w p) (all (is-process w) rest) .0 (rw active at (core-good 0 k v on .active)) .0
+      at-head : 1 ≤ total (times p) (queues-of (core-of s k))
+      at-head = rw (active, counts-once p) (omega arith)
+      stood : (process-of s p .place ≡ queued) × (on-cores s p ≡ 0) × (in-queues s p ≡ 1)
+      stood =
+          stands-queued (process-of s p .place) (on-cores s p) (in-queues s p) (good-of p v named .standing)
+            (omega (arith, queues-after k no-core v on p, at-head))
+
+  take-keeps : (p : ℕ) (rest : List ℕ) (n : ℕ) → core-of s k .work ≡ free no-task → core-of s k .active ≡ p ∷ rest → core-of s k .dispatch ≡ suc n
+      → Accepts (Valid w) (run (take-step k (core-of s k) p rest n) s)
+  take-keeps p rest n work active dispatch = by-progress (get progress now p) (sym (ap (λ (r : Process). r .progress) (o .its-record)))
+    where
+      now : State
+      now = put place p running (put core k (record { work = runs p; active = rest; dispatch = n; mark = core-of s k .mark; run-queue = core-of s k .run-queue }) s)
+      o : Open w p (with-place running (process-of s p)) 1 0 now
+      o = change (with-place running) (taken-off k (head-open p rest active) on rest n no-task work active dispatch refl refl)
+      g : Good w p (process-of s p) (on-cores s p) (in-queues s p)
+      g = good-of p v (o .named)
+      goes-on : T (fits running (process-of s p .progress)) → Valid w now
+      goes-on fit = close o (record { word = g .word; count = g .count; in-hand = g .in-hand; fitting = fit; standing = tt })
+      by-progress : (x : Progress) → process-of s p .progress ≡ x → Accepts (Valid w) (run (taken p x) now)
+      by-progress nothing e = goes-on (rw e tt)
+      by-progress (doing x) e = goes-on (rw e tt)
+      by-progress (due out) e =
+          reports-clears (Valid w) now p out
+            (close (change (with-progress nothing) o) (record { word = g .word; count = g .count; in-hand = tt; fitting = tt; standing = tt }))
+
+  schedule-keeps : (n : ℕ) (a : List ℕ) (b : List (List ℕ)) → core-of s k .work ≡ free no-task → core-of s k .dispatch ≡ n → core-of s k .active ≡ a
+      → core-of s k .run-queue ≡ b → Accepts (Valid w) (run (schedule k (core-of s k) n a b) s)
+  schedule-keeps (suc n) (p ∷ rest) batches work dispatch active run-queue = take-keeps p rest n work active dispatch
+  schedule-keeps zero (p ∷ rest) batches work dispatch active run-queue = store-keeps p rest active
+  schedule-keeps n [] (batch ∷ rest) work dispatch active run-queue = load-keeps batch rest active run-queue
+  schedule-keeps n [] [] work dispatch active run-queue = v
+
+-- The stages of a request
+
+module _ {w : Wiring} {k p : ℕ} {s : State} (h : Runs w k p s) where
+  -- the tests of a stage with a partner, at a guard, and with a first ready guard
+  partnered : (way : Way) (c q : ℕ) → T (valid-stage w p (copy way c q)) → T (own-end w way p c) × T (is-process w q)
+  partnered way c q its = and-means (own-end w way p c) (is-process w q) .0 its
+
+  guarded : (gs : List ℕ) (i : ℕ) → T (valid-enabling w p gs i) → T (own-guards w p gs) × T (in-list gs i)
+  guarded gs i its = and-means (own-guards w p gs) (in-list gs i) .0 its
+
+  with-ready : (gs : List ℕ) (i : ℕ) (r : Option ℕ) → T (valid-disabling w p gs i r) → T (valid-enabling w p gs i) × T (ready-in-list gs r)
+  with-ready gs i r its = and-means (valid-enabling w p gs i) (ready-in-list gs r) .0 its
+
+  -- whatever the stage of p's request is
+  stage-keeps : (x : Stage) → T (valid-stage w p x) → Accepts (Valid w) (run (stage-step k p x) s)
+  stage-keeps (look way c) its = look-keeps way c h its
+  stage-keeps (park way c) its = park-keeps way c h its
+  stage-keeps (copy way c q) its = let (own, named) = partnered way c q its in copy-keeps way c q h own named
+  stage-keeps (clear way c q) its = let (own, named) = partnered way c q its in clear-keeps way c h own q named
+  stage-keeps (wake way c q) its = let (own, named) = partnered way c q its in wake-keeps way c h own q named
+  stage-keeps (enable-look gs i) its = let (own, inside) = guarded gs i its in enable-look-keeps h gs own i inside
+  stage-keeps (raise gs i) its = let (own, inside) = guarded gs i its in raise-keeps h gs own i inside
+  stage-keeps (place-name gs i) its = let (own, inside) = guarded gs i its in place-keeps h gs own i inside
+  stage-keeps (ready-from-look gs i) its = let (own, inside) = guarded gs i its in ready-from-look-keeps h gs own i inside
+  stage-keeps (ready-from-place gs i) its = let (own, inside) = guarded gs i its in ready-from-place-keeps h gs own i inside
+  stage-keeps (wait gs) its = wait-keeps h gs its
+  stage-keeps (disable gs i r) its =
+      let (here, ready) = with-ready gs i r its in
+      let (own, inside) = guarded gs i here in
+      disable-keeps h gs own i inside r ready
+  stage-keeps (lower gs i r) its =
+      let (here, ready) = with-ready gs i r its in
+      let (own, inside) = guarded gs i here in
+      lower-keeps h gs own i inside r ready
+  stage-keeps (finish gs r) its = let both = and-means (own-guards w p gs) (ready-in-list gs r) .0 its in finish-keeps h gs (both .0) r (both .1)
+
+  running-keeps : (x : Progress) → get progress s p ≡ x → Accepts (Valid w) (run (running-step k p x) s)
+  running-keeps nothing e = tt
+  running-keeps (doing x) e = stage-keeps x (rw e at (good-of p (h .valid) (h .named) .in-hand))
+  running-keeps (due o) e = tt
+
+module _ {w : Wiring} {s : State} (k : ℕ) (v : Valid w s) (on : k < w .K) where
+  -- what a core works on is of the table
+  works-on : (x : Work) → core-of s k .work ≡ x → T (valid-work w x)
+  works-on x e = rw e at (core-good 0 k v on .working)
+
+  -- whatever it is
+  work-keeps : (x : Work) → core-of s k .work ≡ x → Accepts (Valid w) (run (work-step k (core-of s k) x) s)
+  work-keeps (runs p) e = running-keeps (record { valid = v; on = on; named = works-on (runs p) e; work = e }) (get progress s p) refl
+  work-keeps (free no-task) e = schedule-keeps v on _ _ _ e refl refl refl
+  work-keeps (free (trigger q)) e = trigger-keeps q v on (works-on (free (trigger q)) e) e
+  work-keeps (free (wake-up q)) e = wake-task-keeps q v on (works-on (free (wake-up q)) e) e
+
+  pub step-keeps : Accepts (Valid w) (run (step k) s)
+  step-keeps = work-keeps (core-of s k .work) refl
