@@ -8,3 +8,4 @@ pub mod Rules
 pub mod Steps
 pub mod Choice
 pub mod Scheduler
+pub mod Requests
