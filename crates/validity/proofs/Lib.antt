@@ -9,3 +9,5 @@ pub mod Steps
 pub mod Choice
 pub mod Scheduler
 pub mod Requests
+pub mod StaysValid
+pub mod SetUp

@@ -30,7 +30,7 @@ good-core w c h =
     let h′ = simp (and-means, leb-means) at h in
     record { working = h′ .0 .0 .0; dispatching = h′ .0 .0 .1; batches = h′ .0 .1; active = h′ .1 .0; waiting = h′ .1 .1 }
 
-good-core-tested : (w : Wiring) (c : Core) → GoodCore w c → T (valid-core w c)
+pub good-core-tested : (w : Wiring) (c : Core) → GoodCore w c → T (valid-core w c)
 unfolding valid-core
 good-core-tested w c g = simp (and-means, leb-means) (((g .working, g .dispatching), g .batches), (g .active, g .waiting))
 
@@ -158,3 +158,12 @@ module _ {w : Wiring} {k p : ℕ} {s : State} (h : Runs w k p s) where
   -- and in view
   pub running-open : Open w p (process-of s p) 1 0 s
   running-open = record { rest = open-at p (h .valid) (h .named) .rest; named = h .named; its-record = refl; its-cores = runs-once .1; its-queues = runs-once .2 }
+
+module _ {w : Wiring} {s : State} (k : ℕ) (v : Valid w s) (on : k < w .K) where
+  -- what a core works on is of the table
+  pub works-on : (x : Work) → core-of s k .work ≡ x → T (valid-work w x)
+  works-on x e = rw e at (core-good 0 k v on .working)
+
+  -- the process that it runs
+  pub runs-there : (p : ℕ) → core-of s k .work ≡ runs p → Runs w k p s
+  runs-there p e = record { valid = v; on = on; named = works-on (runs p) e; work = e }

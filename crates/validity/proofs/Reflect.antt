@@ -23,7 +23,7 @@ use Rattle.rules.specs.Soundness.{
   valid-channel,
   valid,
 }
-use Rattle.validity.proofs.Tests.{tests, and-means, leb-means, all-from, from-all}
+use Rattle.validity.proofs.Tests.{tests, and-means, leb-means, all-from, tabulate-all}
 
 -- What `valid-process` asks of process p with the record r, that runs on `here` cores and stands `there` times in a queue.
 pub record Good (w : Wiring) (p : ℕ) (r : Process) (here there : ℕ) : Type 0 where
@@ -81,7 +81,7 @@ tested w s valid-at-w = at-its-own (subst (λ (x : Wiring). Valid x s) (sym (val
           (
             (
               (simp and-means at sized, v .cores),
-              from-all (valid-process s) 1 (length (s .processes))
+              tabulate-all (valid-process s) (λ i. i) 1 (length (s .processes))
                 (λ p low high. good-tested s p (v .others p (simp tests (low, omega arith)) (λ e. omega arith)))
             ),
             v .channels

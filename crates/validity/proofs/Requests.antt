@@ -54,7 +54,7 @@ use Rattle.rules.specs.Claims.{sends-word}
 use Rattle.validity.proofs.Tests.{tests, and-means, leb-means, unless-means}
 use Rattle.validity.proofs.Reflect.{Good, Valid}
 use Rattle.validity.proofs.Changes.{with-place, with-progress, close, change}
-use Rattle.validity.proofs.Places.{core-good, leaves, joined, Runs, running-good, running-open}
+use Rattle.validity.proofs.Places.{leaves, joined, Runs, runs-there, running-good, running-open}
 use Rattle.validity.proofs.Rules.{Accepts, still-runs, data-written, alternation-written, progress-written, core-written}
 
 -- no number of the second list is in the first
@@ -159,8 +159,7 @@ module _ {w : Wiring} {s : State} (k : ℕ) (v : Valid w s) (on : k < w .K) (r :
   -- whatever the core works on
   requester-keeps : (x : Work) → core-of s k .work ≡ x → Accepts (Valid w) (run (requester x >>= λ q. asks w k q r) s)
   requester-keeps (free t) e = tt
-  requester-keeps (runs p) e =
-      idle-keeps p (record { valid = v; on = on; named = rw e at (core-good 0 k v on .working); work = e }) (get progress s p) refl
+  requester-keeps (runs p) e = idle-keeps p (runs-there k v on p e) (get progress s p) refl
 
   pub request-keeps : Accepts (Valid w) (run (request w r k) s)
   request-keeps = requester-keeps (core-of s k .work) refl

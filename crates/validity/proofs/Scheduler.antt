@@ -67,7 +67,7 @@ use Rattle.validity.proofs.Tests.{tests, and-means, all-append}
 use Rattle.validity.proofs.Sums.{total-append, counts-once}
 use Rattle.validity.proofs.Reflect.{Good, Valid}
 use Rattle.validity.proofs.Changes.{with-place, with-progress, Open, open-at, close, change, queues-after}
-use Rattle.validity.proofs.Places.{stands-queued, GoodCore, good-of, core-good, same-standing, taken-off, Runs}
+use Rattle.validity.proofs.Places.{stands-queued, GoodCore, good-of, core-good, same-standing, taken-off, Runs, works-on, runs-there}
 use Rattle.validity.proofs.Rules.{Accepts, reports-clears}
 use Rattle.validity.proofs.Steps.{look-keeps, park-keeps, copy-keeps, clear-keeps, wake-keeps}
 use Rattle.validity.proofs.Choice.{
@@ -222,16 +222,12 @@ module _ {w : Wiring} {k p : ℕ} {s : State} (h : Runs w k p s) where
   running-keeps (due o) e = tt
 
 module _ {w : Wiring} {s : State} (k : ℕ) (v : Valid w s) (on : k < w .K) where
-  -- what a core works on is of the table
-  works-on : (x : Work) → core-of s k .work ≡ x → T (valid-work w x)
-  works-on x e = rw e at (core-good 0 k v on .working)
-
-  -- whatever it is
+  -- whatever the core works on
   work-keeps : (x : Work) → core-of s k .work ≡ x → Accepts (Valid w) (run (work-step k (core-of s k) x) s)
-  work-keeps (runs p) e = running-keeps (record { valid = v; on = on; named = works-on (runs p) e; work = e }) (get progress s p) refl
+  work-keeps (runs p) e = running-keeps (runs-there k v on p e) (get progress s p) refl
   work-keeps (free no-task) e = schedule-keeps v on _ _ _ e refl refl refl
-  work-keeps (free (trigger q)) e = trigger-keeps q v on (works-on (free (trigger q)) e) e
-  work-keeps (free (wake-up q)) e = wake-task-keeps q v on (works-on (free (wake-up q)) e) e
+  work-keeps (free (trigger q)) e = trigger-keeps q v on (works-on k v on (free (trigger q)) e) e
+  work-keeps (free (wake-up q)) e = wake-task-keeps q v on (works-on k v on (free (wake-up q)) e) e
 
   pub step-keeps : Accepts (Valid w) (run (step k) s)
   step-keeps = work-keeps (core-of s k .work) refl

@@ -63,7 +63,9 @@ all-from f a (suc n) i h low high = go (all-from f (suc a) n i) (ℕ-discrete a 
     go later (no ne) = later ((simp and-means at h) .1) (omega arith) (omega arith)
 
 
--- a test that holds of a, a + 1, .. (n of them) holds of each of their list
-pub from-all : (f : ℕ → Bool) (a n : ℕ) → ((i : ℕ) → a ≤ i → i < a + n → T (f i)) → T (all f (from a n))
-from-all f a zero h = tt
-from-all f a (suc n) h = simp and-means (h a (omega arith) (omega arith), from-all f (suc a) n (λ i low high. h i (omega arith) (omega arith)))
+-- a test that holds of f a, f (a + 1), .. (n of them) holds of each of their list
+pub tabulate-all : {A : Type 0} (f : A → Bool) (g : ℕ → A) (a n : ℕ) → ((i : ℕ) → a ≤ i → i < a + n → T (f (g i))) → T (all f (tabulate g a n))
+tabulate-all f g a zero h = tt
+tabulate-all f g a (suc n) h =
+    and-means (f (g a)) _ .1
+      (h a (omega arith) (omega arith), tabulate-all f g (suc a) n (λ i low high. h i (omega arith) (omega arith)))
