@@ -81,8 +81,8 @@ use Rattle.rules.specs.Soundness.{
   valid-work,
 }
 use Rattle.validity.proofs.Tests.{tests, and-means, all-nth}
-use Rattle.validity.proofs.Reflect.{Valid}
-use Rattle.validity.proofs.Places.{good-of, Runs}
+use Rattle.validity.proofs.Reflect.{Valid, good-of}
+use Rattle.validity.proofs.Places.{Runs}
 use Rattle.validity.proofs.Channels.{channel-good, word-written}
 use Rattle.validity.proofs.Rules.{Accepts, still-runs, alternation-written, next-keeps, reports-keeps, sleeps-keeps, core-written, task-given, wakes-keeps}
 
@@ -125,10 +125,6 @@ module _ {w : Wiring} {k p : ℕ} {s : State} (h : Runs w k p s) where
     at-guard i inside = and-means (own-guards w p gs) (in-list gs i) .1 (own, inside)
 
     module _ (i : ℕ) (inside : T (in-list gs i)) where
-      -- the channel is one of the table's
-      numbered : T (within 1 (length (w .ends)) (guard gs i))
-      numbered = and-means (within 1 (length (w .ends)) (guard gs i)) _ .0 (own-guard i inside) .0
-
       -- the next guard, if there is one, lies in the list
       next-inside : ltb i (length gs) ≡ true → T (in-list gs (i + 1))
       next-inside e = simp tests (omega arith, omega (arith, ltb-true i (length gs) e))
@@ -139,7 +135,7 @@ module _ {w : Wiring} {k p : ℕ} {s : State} (h : Runs w k p s) where
 
       -- the word of the guard
       its-word : (x : ChannelWord) → T (valid-word w x) → Runs w k p (put channel-word (guard gs i) x s)
-      its-word x named = still-runs h refl (word-written (guard gs i) (h .valid) numbered x named)
+      its-word x named = still-runs h refl (word-written receiving p (guard gs i) (h .valid) (own-guard i inside) x named)
 
       pub enable-look-keeps : Accepts (Valid w) (run (enable-look-step p gs i) s)
       enable-look-keeps = next-keeps h _ (by-word (get channel-word s (guard gs i)))
@@ -171,8 +167,8 @@ module _ {w : Wiring} {k p : ℕ} {s : State} (h : Runs w k p s) where
         disabled-next : (r′ : Option ℕ) → T (ready-in-list gs r′) → T (valid-stage w p (disable-next gs i r′))
         disabled-next r′ ready′ =
             either-stage w p (ltb i (length gs)) (disable gs (i + 1) r′) (finish gs r′)
-              (λ e. and-means (own-guards w p gs && in-list gs (i + 1)) (ready-in-list gs r′) .1 (at-guard (i + 1) (next-inside e), ready′))
-              (and-means (own-guards w p gs) (ready-in-list gs r′) .1 (own, ready′))
+            (λ e. and-means (own-guards w p gs && in-list gs (i + 1)) (ready-in-list gs r′) .1 (at-guard (i + 1) (next-inside e), ready′))
+            (and-means (own-guards w p gs) (ready-in-list gs r′) .1 (own, ready′))
 
         -- the first ready guard lies in the list
         first-kept : (r′ : Option ℕ) → T (ready-in-list gs r′) → T (ready-in-list gs (keep-first r′ i))
@@ -184,10 +180,12 @@ module _ {w : Wiring} {k p : ℕ} {s : State} (h : Runs w k p s) where
           where
             lowers : T (valid-stage w p (lower gs i r))
             lowers = and-means (own-guards w p gs && in-list gs i) (ready-in-list gs r) .1 (at-guard i inside, ready)
+
             by-owner : (q : ℕ) (b : Bool)
                 → Accepts (Valid w) (run (if b then (becomes channel-word (guard gs i) nobody >> next p (lower gs i r)) else next p (disable-next gs i r)) s)
             by-owner q true = next-keeps (its-word nobody tt) _ lowers
             by-owner q false = next-keeps h _ (disabled-next r ready)
+
             by-word : (x : ChannelWord) → Accepts (Valid w) (run (disabled p gs i r x) s)
             by-word nobody = next-keeps h _ (disabled-next r ready)
             by-word (plain q) = next-keeps h _ (disabled-next (keep-first r i) (first-kept r ready))
@@ -201,6 +199,7 @@ module _ {w : Wiring} {k p : ℕ} {s : State} (h : Runs w k p s) where
       where
         first : T (valid-stage w p (disable gs 1 none))
         first = and-means (valid-enabling w p gs 1) true .1 (at-guard 1 (simp tests (omega arith, (simp tests at own) .0 .0 .0)), tt)
+
         by-flag : (b : Bool) → Accepts (Valid w) (run (waits k p gs (get alternation s p) b) s)
         by-flag true = sleeps-keeps (counted _ count-small) _ no-task first tt tt
         by-flag false = next-keeps (counted _ count-small) _ first
@@ -219,7 +218,7 @@ module _ {w : Wiring} {k : ℕ} {s : State} (q : ℕ) (v : Valid w s) (on : k < 
   pub trigger-keeps : core-of s k .work ≡ free (trigger q) → Accepts (Valid w) (run (trigger-step k q) s)
   trigger-keeps work =
       lowered-keeps (Valid w) s _ _ (good-of q v named .count)
-        (λ m small. task-given k (alternation-written v q named _ small) on (trigger q) _ work (by-test (get alternation s q .waiting || eqb m 0)))
+      (λ m small. task-given k (alternation-written v q named _ small) on (trigger q) _ work (by-test (get alternation s q .waiting || eqb m 0)))
     where
       by-test : (b : Bool) → T (valid-work w (free (if b then wake-up q else no-task)))
       by-test true = named
@@ -228,4 +227,4 @@ module _ {w : Wiring} {k : ℕ} {s : State} (q : ℕ) (v : Valid w s) (on : k < 
   pub wake-task-keeps : core-of s k .work ≡ free (wake-up q) → Accepts (Valid w) (run (wake-task-step k q) s)
   wake-task-keeps work =
       wakes-keeps k v on (Valid w) q _ named
-        (λ v′. task-given k v′ on (wake-up q) no-task (ap (λ (x : Core). x .work) (core-written k v on _) ∙ work) tt)
+      (λ v′. task-given k v′ on (wake-up q) no-task (ap (λ (x : Core). x .work) (core-written k v on _) ∙ work) tt)

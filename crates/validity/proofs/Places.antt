@@ -13,7 +13,7 @@ use Rattle.rules.specs.Steps.{with-work, with-active}
 use Rattle.rules.specs.Soundness.{is-process, runs-it, on-cores, in-queues, stands, valid-work, not-empty, valid-core}
 use Rattle.validity.proofs.Tests.{tests, and-means, leb-means, all-at, all-append}
 use Rattle.validity.proofs.Sums.{total-append, counts-once, counts-not}
-use Rattle.validity.proofs.Reflect.{Good, AllBut, Valid}
+use Rattle.validity.proofs.Reflect.{Good, AllBut, Valid, good-of}
 use Rattle.validity.proofs.Changes.{changed, Open, open-at, close, change, queued-in, Alike, cores-after, queues-after, set-core}
 
 -- What `valid-core` asks.
@@ -24,36 +24,38 @@ pub record GoodCore (w : Wiring) (c : Core) : Type 0 where
   pub active : T (all (is-process w) (c .active))
   pub waiting : T (all (all (is-process w)) (c .run-queue))
 
+-- `valid-core` is the fact
 good-core : (w : Wiring) (c : Core) → T (valid-core w c) → GoodCore w c
 unfolding valid-core
 good-core w c h =
     let h′ = simp (and-means, leb-means) at h in
     record { working = h′ .0 .0 .0; dispatching = h′ .0 .0 .1; batches = h′ .0 .1; active = h′ .1 .0; waiting = h′ .1 .1 }
 
+-- and the other way
 pub good-core-tested : (w : Wiring) (c : Core) → GoodCore w c → T (valid-core w c)
 unfolding valid-core
 good-core-tested w c g = simp (and-means, leb-means) (((g .working, g .dispatching), g .batches), (g .active, g .waiting))
 
--- who runs on a core is running, there alone and in no queue
-stands-running : (x : Place) (here there : ℕ) → T (stands here there x) → 1 ≤ here → (x ≡ running) × (here ≡ 1) × (there ≡ 0)
-stands-running running here there h b = let h′ = simp tests at h in (refl, h′ .0, h′ .1)
+-- a core may have other work
+pub good-work : {w : Wiring} {c : Core} (x : Work) → GoodCore w c → T (valid-work w x) → GoodCore w (with-work x c)
+good-work x g its = record { working = its; dispatching = g .dispatching; batches = g .batches; active = g .active; waiting = g .waiting }
+
+-- a process stands at most once, on a core or in a queue
+pub stands-once : (x : Place) (here there : ℕ) → T (stands here there x) → here + there ≤ 1
+stands-once running here there h = omega (arith, simp tests at h)
+stands-once queued here there h = omega (arith, simp tests at h)
+stands-once asleep here there h = omega (arith, simp tests at h)
+stands-once ended here there h = omega (arith, simp tests at h)
+
+-- who stands on a core is running
+stands-running : (x : Place) (here there : ℕ) → T (stands here there x) → 1 ≤ here → x ≡ running
+stands-running running here there h b = refl
 stands-running queued here there h b = absurd (omega (arith, simp tests at h))
 stands-running asleep here there h b = absurd (omega (arith, simp tests at h))
 stands-running ended here there h b = absurd (omega (arith, simp tests at h))
 
--- who stands in a queue is queued, there once and on no core
-pub stands-queued : (x : Place) (here there : ℕ) → T (stands here there x) → 1 ≤ there → (x ≡ queued) × (here ≡ 0) × (there ≡ 1)
-stands-queued running here there h b = absurd (omega (arith, simp tests at h))
-stands-queued queued here there h b = let h′ = simp tests at h in (refl, h′ .0, h′ .1)
-stands-queued asleep here there h b = absurd (omega (arith, simp tests at h))
-stands-queued ended here there h b = absurd (omega (arith, simp tests at h))
-
 module _ {w : Wiring} {s : State} where
-  -- the process of a valid state
-  pub good-of : (p : ℕ) → Valid w s → T (is-process w p) → Good w p (process-of s p) (on-cores s p) (in-queues s p)
-  good-of p v is = v .others p is (λ e. omega (arith, simp tests at is))
-
-  -- and its core
+  -- a core of the table is as it should be
   pub core-good : (p k : ℕ) → AllBut w p s → k < w .K → GoodCore w (core-of s k)
   core-good p k a b =
       good-core w (core-of s k) (all-at (valid-core w) (s .cores) k no-core (a .cores) (omega (arith, ap (λ (x : Wiring). x .K) (a .wired))))
@@ -62,7 +64,7 @@ module _ {w : Wiring} {s : State} where
   pub amend : (p : ℕ) (f : Process → Process) → Valid w s → T (is-process w p)
       → ((here there : ℕ) → Good w p (process-of s p) here there → Good w p (f (process-of s p)) here there)
       → Valid w (changed p f s)
-  amend p f v is keeps = close (change f (open-at p v is)) (keeps _ _ (good-of p v is))
+  amend p f v is keeps = close (change f (open-at p v is refl refl)) (keeps _ _ (good-of p v is))
 
   -- a core on which all stand as before
   pub same-standing : (k : ℕ) (c : Core) → Valid w s → k < w .K → GoodCore w c → ((q : ℕ) → Alike q c (core-of s k)) → Valid w (put core k c s)
@@ -86,51 +88,34 @@ module _ {w : Wiring} {p : ℕ} {r : Process} {here there : ℕ} {s : State} (k 
   pub leaves : (t : Task) → core-of s k .work ≡ runs p → T (valid-work w (free t)) → here ≡ 1
       → Open w p r 0 there (put core k (with-work (free t) (core-of s k)) s)
   leaves t work task one =
-      moved (with-work (free t) (core-of s k)) 0 there
-        (
-          let g = core-good p k (o .rest) on in
-          record { working = task; dispatching = g .dispatching; batches = g .batches; active = g .active; waiting = g .waiting }
-        )
-        (λ q other. record { works = rw (work, counts-not p q other); queues = refl })
-        (rw (work, counts-once p) (omega arith))
-        refl
+      moved (with-work (free t) (core-of s k)) 0 there (good-work (free t) (core-good p k (o .rest) on) task)
+      (λ q other. record { works = rw (work, counts-not p q other); queues = refl })
+      (rw (work, counts-once p) (omega arith))
+      refl
 
   -- p goes to the end of core k's active queue
   pub joined : there ≡ 0 → Open w p r here 1 (put core k (with-active (core-of s k .active ++ (p ∷ [])) (core-of s k)) s)
-  joined zero-times =
+  joined no-times =
+      let g = core-good p k (o .rest) on in
+      let longer = all-append (is-process w) (core-of s k .active) (p ∷ []) (g .active) (and-means (is-process w p) true .1 (o .named, tt)) in
       moved (with-active (core-of s k .active ++ (p ∷ [])) (core-of s k)) here 1
-        (
-          let g = core-good p k (o .rest) on in
-          record {
-            working = g .working;
-            dispatching = g .dispatching;
-            batches = g .batches;
-            active = all-append (is-process w) (core-of s k .active) (p ∷ []) (g .active) (and-means (is-process w p) true .1 (o .named, tt));
-            waiting = g .waiting;
-          }
-        )
-        (λ q other. record { works = refl; queues = simp total-append (rw (counts-not p q other) (omega arith)) })
-        refl
-        (simp total-append (rw (counts-once p) (omega arith)))
+      (record { working = g .working; dispatching = g .dispatching; batches = g .batches; active = longer; waiting = g .waiting })
+      (λ q other. record { works = refl; queues = simp total-append (rw (counts-not p q other) (omega arith)) })
+      refl
+      (simp total-append (rw (counts-once p) (omega arith)))
 
   -- p, at the head of core k's active queue, is taken
-  pub taken-off : (rest : List ℕ) (n : ℕ) (t : Task) → core-of s k .work ≡ free t → core-of s k .active ≡ p ∷ rest → core-of s k .dispatch ≡ suc n → there ≡ 1 → here ≡ 0
+  pub taken-off : (rest : List ℕ) (n : ℕ) (t : Task) → core-of s k .work ≡ free t → core-of s k .active ≡ p ∷ rest → core-of s k .dispatch ≡ suc n
+      → there ≡ 1 → here ≡ 0
       → Open w p r 1 0 (put core k (record { work = runs p; active = rest; dispatch = n; mark = core-of s k .mark; run-queue = core-of s k .run-queue }) s)
-  taken-off rest n t work active dispatch once none =
+  taken-off rest n t work active dispatch once nowhere =
+      let g = core-good p k (o .rest) on in
+      let shorter = and-means (is-process w p) (all (is-process w) rest) .0 (rw active at (g .active)) .1 in
       moved _ 1 0
-        (
-          let g = core-good p k (o .rest) on in
-          record {
-            working = o .named;
-            dispatching = omega (arith, g .dispatching);
-            batches = g .batches;
-            active = (simp and-means at (rw active at (g .active))) .1;
-            waiting = g .waiting;
-          }
-        )
-        (λ q other. record { works = rw (work, counts-not p q other); queues = rw (active, counts-not p q other) (omega arith) })
-        (rw (work, counts-once p) (omega arith))
-        (rw (active, counts-once p) (omega arith))
+      (record { working = o .named; dispatching = omega (arith, g .dispatching); batches = g .batches; active = shorter; waiting = g .waiting })
+      (λ q other. record { works = rw (work, counts-not p q other); queues = rw (active, counts-not p q other) (omega arith) })
+      (rw (work, counts-once p) (omega arith))
+      (rw (active, counts-once p) (omega arith))
 
 -- Process p runs on core k of a valid state.
 pub record Runs (w : Wiring) (k p : ℕ) (s : State) : Type 0 where
@@ -140,24 +125,25 @@ pub record Runs (w : Wiring) (k p : ℕ) (s : State) : Type 0 where
   pub work : core-of s k .work ≡ runs p
 
 module _ {w : Wiring} {k p : ℕ} {s : State} (h : Runs w k p s) where
-  -- it runs nowhere else, and stands in no queue
-  runs-once : (process-of s p .place ≡ running) × (on-cores s p ≡ 1) × (in-queues s p ≡ 0)
-  runs-once =
+  -- it is as it should be
+  pub running-good : Good w p (process-of s p) (on-cores s p) (in-queues s p)
+  running-good = good-of p (h .valid) (h .named)
+
+  -- it stands on a core
+  on-a-core : 1 ≤ on-cores s p
+  on-a-core =
       let at-k : runs-it p (core-of s k .work) ≡ 1 = rw (h .work, counts-once p) in
-      stands-running (process-of s p .place) (on-cores s p) (in-queues s p) (good-of p (h .valid) (h .named) .standing)
-        (omega (arith, cores-after k no-core (h .valid) (h .on) p, at-k))
+      omega (arith, cores-after k no-core (h .valid) (h .on) p, at-k)
 
   -- its place is that of a running process
   pub is-running : process-of s p .place ≡ running
-  is-running = runs-once .0
+  is-running = stands-running (process-of s p .place) (on-cores s p) (in-queues s p) (running-good .standing) on-a-core
 
-  -- it is as it should be
-  pub running-good : Good w p (process-of s p) 1 0
-  running-good = rw (runs-once .1, runs-once .2) at (good-of p (h .valid) (h .named))
-
-  -- and in view
+  -- it runs nowhere else, and stands in no queue
   pub running-open : Open w p (process-of s p) 1 0 s
-  running-open = record { rest = open-at p (h .valid) (h .named) .rest; named = h .named; its-record = refl; its-cores = runs-once .1; its-queues = runs-once .2 }
+  running-open =
+      let once = stands-once (process-of s p .place) (on-cores s p) (in-queues s p) (running-good .standing) in
+      open-at p (h .valid) (h .named) (omega (arith, once, on-a-core)) (omega (arith, once, on-a-core))
 
 module _ {w : Wiring} {s : State} (k : ℕ) (v : Valid w s) (on : k < w .K) where
   -- what a core works on is of the table

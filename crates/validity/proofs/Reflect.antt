@@ -45,6 +45,10 @@ pub record AllBut (w : Wiring) (p : ℕ) (s : State) : Type 0 where
 abbrev pub Valid : Wiring → State → Type 0
 Valid w s = AllBut w 0 s
 
+-- so each process of a valid state is as it should be
+pub good-of : {w : Wiring} {s : State} (p : ℕ) → Valid w s → T (is-process w p) → Good w p (process-of s p) (on-cores s p) (in-queues s p)
+good-of p v is = v .others p is (λ e. omega (arith, simp tests at is))
+
 -- `valid-process` is the fact
 pub good : (s : State) (p : ℕ) → T (valid-process s p) → Good (wiring s) p (process-of s p) (on-cores s p) (in-queues s p)
 unfolding valid-process
@@ -52,6 +56,7 @@ good s p h =
     let h′ = simp (and-means, leb-means) at h in
     record { word = h′ .0 .0 .0 .0; count = h′ .0 .0 .0 .1; in-hand = h′ .0 .0 .1; fitting = h′ .0 .1; standing = h′ .1 }
 
+-- and the other way
 pub good-tested : (s : State) (p : ℕ) → Good (wiring s) p (process-of s p) (on-cores s p) (in-queues s p) → T (valid-process s p)
 unfolding valid-process
 good-tested s p g = simp (and-means, leb-means) ((((g .word, g .count), g .in-hand), g .fitting), g .standing)
@@ -77,12 +82,11 @@ tested w s valid-at-w = at-its-own (subst (λ (x : Wiring). Valid x s) (sym (val
     at-its-own : Valid (wiring s) s → T (valid s)
     at-its-own v =
         let sized = rw (length-map (s .channels) (λ (c : Channel). c .ends)) at (v .sized) in
-        simp and-means
+        simp and-means (
           (
-            (
-              (simp and-means at sized, v .cores),
-              tabulate-all (valid-process s) (λ i. i) 1 (length (s .processes))
-                (λ p low high. good-tested s p (v .others p (simp tests (low, omega arith)) (λ e. omega arith)))
-            ),
-            v .channels
-          )
+            (simp and-means at sized, v .cores),
+            tabulate-all (valid-process s) (λ i. i) 1 (length (s .processes))
+                (λ p low high. good-tested s p (good-of p v (simp tests (low, omega arith)))),
+          ),
+          v .channels,
+        )

@@ -51,28 +51,15 @@ use Rattle.rules.specs.Requests.{
 use Rattle.rules.specs.Soundness.{own-end, own-guards, valid-stage}
 use Rattle.rules.specs.Calls.{a-request}
 use Rattle.rules.specs.Claims.{sends-word}
-use Rattle.validity.proofs.Tests.{tests, and-means, leb-means, unless-means}
+use Rattle.validity.proofs.Tests.{tests, and-means, leb-means, unless-means, or-left, or-right, or-cases}
 use Rattle.validity.proofs.Reflect.{Good, Valid}
-use Rattle.validity.proofs.Changes.{with-place, with-progress, close, change}
+use Rattle.validity.proofs.Changes.{with-place, with-progress, refit, close, change}
 use Rattle.validity.proofs.Places.{leaves, joined, Runs, runs-there, running-good, running-open}
 use Rattle.validity.proofs.Rules.{Accepts, still-runs, data-written, alternation-written, progress-written, core-written}
 
 -- no number of the second list is in the first
-Apart : List ℕ → List ℕ → Type 0
-Apart earlier gs = (g : ℕ) → T (member g gs) → T (member g earlier) → ⊥
-
--- a disjunction
-or-left : (a b : Bool) → T a → T (a || b)
-or-left true b h = tt
-or-left false b h = absurd h
-
-or-right : (a b : Bool) → T b → T (a || b)
-or-right true b h = tt
-or-right false b h = h
-
-or-cases : {C : Type 0} (a b : Bool) → T (a || b) → (T a → C) → (T b → C) → C
-or-cases true b h f g = f tt
-or-cases false b h f g = g h
+Fresh : List ℕ → List ℕ → Type 0
+Fresh earlier gs = (g : ℕ) → T (member g gs) → T (member g earlier) → ⊥
 
 module _ (w : Wiring) (p : ℕ) {A : Type 0} (P : State → Type 0) (s : State) (rest : Rule A) where
   -- past a test that refuses, the test holds
@@ -90,27 +77,27 @@ module _ (w : Wiring) (p : ℕ) {A : Type 0} (P : State → Type 0) (s : State) 
       by-tests false b after = tt
 
   -- past the tests of the guards, each is a channel that p reads, and none stands twice
-  past-guards : (earlier gs : List ℕ) → (T (all (own-end w receiving p) gs) → T (distinct gs) → Apart earlier gs → Accepts P (run rest s))
+  past-guards : (earlier gs : List ℕ) → (T (all (own-end w receiving p) gs) → T (distinct gs) → Fresh earlier gs → Accepts P (run rest s))
       → Accepts P (run (proper-guards w p earlier gs >> rest) s)
-  unfolding Apart
+  unfolding Fresh
   past-guards earlier [] after = after tt tt (λ g h _. h)
   past-guards earlier (c ∷ gs) after =
       by-tests (within 1 (length (w .ends)) c) (eqb (end-of w receiving c) p) (if member c earlier then false else true)
-        (
-          λ own new.
-            past-guards (c ∷ earlier) gs
-              (
-                λ owns once apart.
-                  after (and-means (own-end w receiving p c) (all (own-end w receiving p) gs) .1 (own, owns))
-                    (simp (and-means, unless-means) ((λ again. apart c again (or-left (eqb c c) (member c earlier) (eqb-refl c))), once))
-                    (
-                      λ g its had.
-                        or-cases (eqb c g) (member g gs) its
-                          (λ same. unless-means (member c earlier) .0 new (rw (eqb→eq c g same) had))
-                          (λ later. apart g later (or-right (eqb c g) (member g earlier) had))
-                    )
-              )
-        )
+      (
+      λ own new.
+      past-guards (c ∷ earlier) gs
+      (
+      λ owns once apart.
+      after (and-means (own-end w receiving p c) (all (own-end w receiving p) gs) .1 (own, owns))
+      (simp (and-means, unless-means) ((λ again. apart c again (or-left (eqb c c) (member c earlier) (eqb-refl c))), once))
+      (
+      λ g its had.
+      or-cases (eqb c g) (member g gs) its
+      (λ same. unless-means (member c earlier) .0 new (rw (eqb→eq c g same) had))
+      (λ later. apart g later (or-right (eqb c g) (member g earlier) had))
+      )
+      )
+      )
     where
       by-tests : (a b d : Bool) → (T (a && b) → T d → Accepts P (run (proper-guards w p (c ∷ earlier) gs >> rest) s))
           → Accepts P (run (((unless a CHANNEL >> unless b OTHER-END) >> (unless d TWICE >> proper-guards w p (c ∷ earlier) gs)) >> rest) s)
@@ -124,30 +111,28 @@ module _ {w : Wiring} {k p : ℕ} {s : State} (h : Runs w k p s) (idle : get pro
   asks-keeps : (r : Request) → T (sends-word (a-request r)) → Accepts (Valid w) (run (asks w k p r) s)
   asks-keeps (send c n) small =
       past-end w p (Valid w) s _ sending c
-        (λ own. progress-written (still-runs h refl (data-written (h .valid) p (h .named) n (leb-means _ _ .0 small))) (doing (look sending c)) own tt)
+      (λ own. progress-written (still-runs h refl (data-written (h .valid) p (h .named) n (leb-means _ _ .0 small))) (doing (look sending c)) own tt)
   asks-keeps (receive c) small = past-end w p (Valid w) s _ receiving c (λ own. progress-written h (doing (look receiving c)) own tt)
   asks-keeps (choose gs) small =
       past-test w p (Valid w) s _ (within 1 8 (length gs)) _
-        (
-          λ few.
-            past-guards w p (Valid w) s _ [] gs
-              (
-                λ owns once _.
-                  progress-written (still-runs h refl (alternation-written (h .valid) p (h .named) choice-begun (omega arith)))
-                    (doing (enable-look gs 1))
-                    (let few′ = simp tests at few in simp tests (((few′, owns), once), (omega arith, few′ .0)))
-                    tt
-              )
-        )
+      (
+      λ few.
+      past-guards w p (Valid w) s _ [] gs
+      (
+      λ owns once _.
+      progress-written (still-runs h refl (alternation-written (h .valid) p (h .named) choice-begun (omega arith)))
+      (doing (enable-look gs 1))
+      (let few′ = simp tests at few in simp tests (((few′, owns), once), (omega arith, few′ .0)))
+      tt
+      )
+      )
   asks-keeps yield small =
-      let g = running-good h in
       let queue = joined k (change (with-place queued) (change (with-progress (due go)) (running-open h))) (h .on) refl in
       close (leaves k queue (h .on) no-task (ap (λ (c : Core). c .work) (core-written k (h .valid) (h .on) _) ∙ h .work) tt refl)
-        (record { word = g .word; count = g .count; in-hand = tt; fitting = tt; standing = tt })
+      (refit (running-good h) queued (due go) tt tt tt)
   asks-keeps end small =
-      let g = running-good h in
       close (leaves k (change (with-place ended) (running-open h)) (h .on) no-task (h .work) tt refl)
-        (record { word = g .word; count = g .count; in-hand = g .in-hand; fitting = rw idle tt; standing = tt })
+      (refit (running-good h) ended (get progress s p) (running-good h .in-hand) (rw idle tt) tt)
 
 module _ {w : Wiring} {s : State} (k : ℕ) (v : Valid w s) (on : k < w .K) (r : Request) (small : T (sends-word (a-request r))) where
   -- whether or not it has a request in hand

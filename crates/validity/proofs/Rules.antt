@@ -40,9 +40,9 @@ use Rattle.rules.specs.Rule.{Rule, _>>=_, _>>_, Ran, accepted, refused, run}
 use Rattle.rules.specs.Steps.{with-work, with-active, next, sleeps, reports, joins, must-sleep, wakes}
 use Rattle.rules.specs.Soundness.{is-process, valid-stage, valid-progress, fits, on-cores, in-queues, valid-work, valid-word}
 use Rattle.validity.proofs.Tests.{tests}
-use Rattle.validity.proofs.Reflect.{Good, Valid}
-use Rattle.validity.proofs.Changes.{changed, with-place, with-data, with-alternation, with-progress, close, change, open-at}
-use Rattle.validity.proofs.Places.{good-of, core-good, amend, same-standing, leaves, joined, Runs, is-running, running-good, running-open}
+use Rattle.validity.proofs.Reflect.{Good, Valid, good-of}
+use Rattle.validity.proofs.Changes.{changed, with-place, with-data, with-alternation, with-progress, refit, close, change, open-at}
+use Rattle.validity.proofs.Places.{good-work, core-good, amend, same-standing, leaves, joined, Runs, is-running, running-good, running-open}
 use Rattle.validity.proofs.Channels.{word-written, transfers-written}
 
 -- what holds of the state that a rule accepts
@@ -66,20 +66,19 @@ module _ {w : Wiring} {s : State} (v : Valid w s) (p : ℕ) (named : T (is-proce
   pub data-written : (n : ℕ) → n < 4294967296 → Valid w (put data-word p n s)
   data-written n small =
       amend p (with-data n) v named
-        (λ here there g. record { word = small; count = g .count; in-hand = g .in-hand; fitting = g .fitting; standing = g .standing })
+      (λ here there g. record { word = small; count = g .count; in-hand = g .in-hand; fitting = g .fitting; standing = g .standing })
 
   -- its alternation state
   pub alternation-written : (a : Alternation) → a .count ≤ 9 → Valid w (put alternation p a s)
   alternation-written a small =
       amend p (with-alternation a) v named
-        (λ here there g. record { word = g .word; count = small; in-hand = g .in-hand; fitting = g .fitting; standing = g .standing })
+      (λ here there g. record { word = g .word; count = small; in-hand = g .in-hand; fitting = g .fitting; standing = g .standing })
 
 module _ {w : Wiring} {k p : ℕ} {s : State} (h : Runs w k p s) where
   -- p's progress
   pub progress-written : (x : Progress) → T (valid-progress w p x) → T (fits running x) → Valid w (put progress p x s)
   progress-written x its fit =
-      amend p (with-progress x) (h .valid) (h .named)
-        (λ here there g. record { word = g .word; count = g .count; in-hand = its; fitting = rw (is-running h) fit; standing = g .standing })
+      amend p (with-progress x) (h .valid) (h .named) (λ here there g. refit g (process-of s p .place) x its (rw (is-running h) fit) (g .standing))
 
   -- the next stage
   pub next-keeps : (x : Stage) → T (valid-stage w p x) → Accepts (Valid w) (run (next p x) s)
@@ -93,9 +92,8 @@ module _ {w : Wiring} {k p : ℕ} {s : State} (h : Runs w k p s) where
   pub sleeps-keeps : (then : Progress) (t : Task) → T (valid-progress w p then) → T (fits asleep then) → T (valid-work w (free t))
       → Accepts (Valid w) (run (sleeps k p then t) s)
   sleeps-keeps then t its fit task =
-      let g = running-good h in
       close (leaves k (change (with-place asleep) (change (with-progress then) (running-open h))) (h .on) t (h .work) task refl)
-        (record { word = g .word; count = g .count; in-hand = its; fitting = fit; standing = tt })
+      (refit (running-good h) asleep then its fit tt)
 
 module _ {w : Wiring} {s : State} (k : ℕ) (v : Valid w s) (on : k < w .K) where
   -- a core just written is as written
@@ -105,10 +103,8 @@ module _ {w : Wiring} {s : State} (k : ℕ) (v : Valid w s) (on : k < w .K) wher
   -- a core that runs nothing takes another task
   pub task-given : (t t′ : Task) → core-of s k .work ≡ free t → T (valid-work w (free t′)) → Valid w (put core k (with-work (free t′) (core-of s k)) s)
   task-given t t′ work task =
-      let g = core-good 0 k v on in
-      same-standing k (with-work (free t′) (core-of s k)) v on
-        (record { working = task; dispatching = g .dispatching; batches = g .batches; active = g .active; waiting = g .waiting })
-        (λ q. record { works = rw work; queues = refl })
+      same-standing k (with-work (free t′) (core-of s k)) v on (good-work (free t′) (core-good 0 k v on) task)
+      (λ q. record { works = rw work; queues = refl })
 
   -- q is woken: where it sleeps, and there it joins the active queue
   pub wakes-keeps : {A : Type 0} (P : State → Type 0) (q : ℕ) (rest : Rule A) → T (is-process w q)
@@ -120,20 +116,15 @@ module _ {w : Wiring} {s : State} (k : ℕ) (v : Valid w s) (on : k < w .K) wher
       fits-queue nothing h = h
       fits-queue (doing x) h = h
       fits-queue (due o) h = h
+
       woken : get place s q ≡ asleep → Valid w (put core k (with-active (core-of s k .active ++ (q ∷ [])) (core-of s k)) (put place q queued s))
       woken is-asleep =
           let g = good-of q v named in
           let stood = simp tests at (rw is-asleep at (g .standing)) in
-          close (joined k (change (with-place queued) (open-at q v named)) on (stood .1))
-            (
-              record {
-                word = g .word;
-                count = g .count;
-                in-hand = g .in-hand;
-                fitting = fits-queue (process-of s q .progress) (rw is-asleep at (g .fitting));
-                standing = rw (stood .0) tt;
-              }
-            )
+          let fit = fits-queue (process-of s q .progress) (rw is-asleep at (g .fitting)) in
+          close (joined k (change (with-place queued) (open-at q v named (stood .0) (stood .1))) on refl)
+          (refit g queued (process-of s q .progress) (g .in-hand) fit tt)
+
       by-place : (x : Place) → get place s q ≡ x → Accepts P (run (must-sleep x >> joins k q >> rest) s)
       by-place running e = tt
       by-place queued e = tt

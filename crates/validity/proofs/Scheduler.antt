@@ -40,7 +40,6 @@ use Rattle.rules.specs.State.{
   runs,
   free,
   Core,
-  queues-of,
   State,
   Wiring,
 }
@@ -65,9 +64,9 @@ use Rattle.rules.specs.Soundness.{
 }
 use Rattle.validity.proofs.Tests.{tests, and-means, all-append}
 use Rattle.validity.proofs.Sums.{total-append, counts-once}
-use Rattle.validity.proofs.Reflect.{Good, Valid}
-use Rattle.validity.proofs.Changes.{with-place, with-progress, Open, open-at, close, change, queues-after}
-use Rattle.validity.proofs.Places.{stands-queued, GoodCore, good-of, core-good, same-standing, taken-off, Runs, works-on, runs-there}
+use Rattle.validity.proofs.Reflect.{Good, Valid, good-of}
+use Rattle.validity.proofs.Changes.{with-place, with-progress, refit, Open, open-at, close, change, queued-in, queues-after}
+use Rattle.validity.proofs.Places.{stands-once, GoodCore, core-good, same-standing, taken-off, Runs, running-good, works-on, runs-there}
 use Rattle.validity.proofs.Rules.{Accepts, reports-clears}
 use Rattle.validity.proofs.Steps.{look-keeps, park-keeps, copy-keeps, clear-keeps, wake-keeps}
 use Rattle.validity.proofs.Choice.{
@@ -110,18 +109,18 @@ module _ {w : Wiring} {k : ℕ} {s : State} (v : Valid w s) (on : k < w .K) wher
       let g = core-good 0 k v on in
       let mark = core-of s k .mark in
       same-standing k _ v on
-        (
-          record {
-            working = g .working;
-            dispatching = g .dispatching;
-            batches = all-append not-empty (core-of s k .run-queue) (stored mark p rest) (g .batches) (stored-not-empty mark p rest);
-            active = tt;
-            waiting =
-              all-append (all (is-process w)) (core-of s k .run-queue) (stored mark p rest) (g .waiting)
-                (stored-all (is-process w) mark p rest (rw active at (g .active)));
-          }
-        )
-        (λ q. record { works = refl; queues = simp (total-append, stored-total, active) (omega arith) })
+      (
+      record {
+        working = g .working;
+        dispatching = g .dispatching;
+        batches = all-append not-empty (core-of s k .run-queue) (stored mark p rest) (g .batches) (stored-not-empty mark p rest);
+        active = tt;
+        waiting =
+            all-append (all (is-process w)) (core-of s k .run-queue) (stored mark p rest) (g .waiting)
+            (stored-all (is-process w) mark p rest (rw active at (g .active)));
+      }
+      )
+      (λ q. record { works = refl; queues = simp (total-append, stored-total, active) (omega arith) })
 
   load-keeps : (batch : List ℕ) (rest : List (List ℕ)) → core-of s k .active ≡ [] → core-of s k .run-queue ≡ batch ∷ rest
       → Accepts (Valid w) (run (load-step k (core-of s k) batch rest) s)
@@ -129,30 +128,25 @@ module _ {w : Wiring} {k : ℕ} {s : State} (v : Valid w s) (on : k < w .K) wher
       let g = core-good 0 k v on in
       let waiting = and-means (all (is-process w) batch) _ .0 (rw run-queue at (g .waiting)) in
       same-standing k _ v on
-        (
-          record {
-            working = g .working;
-            dispatching = omega arith;
-            batches = and-means (not-empty batch) _ .0 (rw run-queue at (g .batches)) .1;
-            active = waiting .0;
-            waiting = waiting .1;
-          }
-        )
-        (λ q. record { works = refl; queues = rw (active, run-queue) (omega arith) })
+      (
+      record {
+        working = g .working;
+        dispatching = omega arith;
+        batches = and-means (not-empty batch) _ .0 (rw run-queue at (g .batches)) .1;
+        active = waiting .0;
+        waiting = waiting .1;
+      }
+      )
+      (λ q. record { works = refl; queues = rw (active, run-queue) (omega arith) })
 
   -- the head of the active queue is queued, once
   head-open : (p : ℕ) (rest : List ℕ) → core-of s k .active ≡ p ∷ rest → Open w p (process-of s p) 0 1 s
   head-open p rest active =
-      record { rest = open-at p v named .rest; named = named; its-record = refl; its-cores = stood .1; its-queues = stood .2 }
-    where
-      named : T (is-process w p)
-      named = and-means (is-process w p) (all (is-process w) rest) .0 (rw active at (core-good 0 k v on .active)) .0
-      at-head : 1 ≤ total (times p) (queues-of (core-of s k))
-      at-head = rw (active, counts-once p) (omega arith)
-      stood : (process-of s p .place ≡ queued) × (on-cores s p ≡ 0) × (in-queues s p ≡ 1)
-      stood =
-          stands-queued (process-of s p .place) (on-cores s p) (in-queues s p) (good-of p v named .standing)
-            (omega (arith, queues-after k no-core v on p, at-head))
+      let named = and-means (is-process w p) (all (is-process w) rest) .0 (rw active at (core-good 0 k v on .active)) .0 in
+      let at-head : 1 ≤ queued-in p (core-of s k) = rw (active, counts-once p) (omega arith) in
+      let in-a-queue : 1 ≤ in-queues s p = omega (arith, queues-after k no-core v on p) in
+      let once = stands-once (process-of s p .place) (on-cores s p) (in-queues s p) (good-of p v named .standing) in
+      open-at p v named (omega arith) (omega arith)
 
   take-keeps : (p : ℕ) (rest : List ℕ) (n : ℕ) → core-of s k .work ≡ free no-task → core-of s k .active ≡ p ∷ rest → core-of s k .dispatch ≡ suc n
       → Accepts (Valid w) (run (take-step k (core-of s k) p rest n) s)
@@ -160,18 +154,22 @@ module _ {w : Wiring} {k : ℕ} {s : State} (v : Valid w s) (on : k < w .K) wher
     where
       now : State
       now = put place p running (put core k (record { work = runs p; active = rest; dispatch = n; mark = core-of s k .mark; run-queue = core-of s k .run-queue }) s)
+
       o : Open w p (with-place running (process-of s p)) 1 0 now
       o = change (with-place running) (taken-off k (head-open p rest active) on rest n no-task work active dispatch refl refl)
+
       g : Good w p (process-of s p) (on-cores s p) (in-queues s p)
       g = good-of p v (o .named)
+
       goes-on : T (fits running (process-of s p .progress)) → Valid w now
-      goes-on fit = close o (record { word = g .word; count = g .count; in-hand = g .in-hand; fitting = fit; standing = tt })
+      goes-on fit = close o (refit g running (process-of s p .progress) (g .in-hand) fit tt)
+
       by-progress : (x : Progress) → process-of s p .progress ≡ x → Accepts (Valid w) (run (taken p x) now)
       by-progress nothing e = goes-on (rw e tt)
       by-progress (doing x) e = goes-on (rw e tt)
       by-progress (due out) e =
           reports-clears (Valid w) now p out
-            (close (change (with-progress nothing) o) (record { word = g .word; count = g .count; in-hand = tt; fitting = tt; standing = tt }))
+          (close (change (with-progress nothing) o) (refit g running nothing tt tt tt))
 
   schedule-keeps : (n : ℕ) (a : List ℕ) (b : List (List ℕ)) → core-of s k .work ≡ free no-task → core-of s k .dispatch ≡ n → core-of s k .active ≡ a
       → core-of s k .run-queue ≡ b → Accepts (Valid w) (run (schedule k (core-of s k) n a b) s)
@@ -218,7 +216,7 @@ module _ {w : Wiring} {k p : ℕ} {s : State} (h : Runs w k p s) where
 
   running-keeps : (x : Progress) → get progress s p ≡ x → Accepts (Valid w) (run (running-step k p x) s)
   running-keeps nothing e = tt
-  running-keeps (doing x) e = stage-keeps x (rw e at (good-of p (h .valid) (h .named) .in-hand))
+  running-keeps (doing x) e = stage-keeps x (rw e at (running-good h .in-hand))
   running-keeps (due o) e = tt
 
 module _ {w : Wiring} {s : State} (k : ℕ) (v : Valid w s) (on : k < w .K) where

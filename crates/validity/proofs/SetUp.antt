@@ -53,45 +53,44 @@ module _ {A : Type 0} (g : ℕ → A) where
 -- The cores
 
 module _ (k j : ℕ) where
+  -- what holds of no processes and their batches on core j, and goes on holding with one process more, holds of all
+  batches-by : (P : List ℕ → List (List ℕ) → Type 0) → P [] []
+      → ((p : ℕ) (l : List ℕ) (batches : List (List ℕ)) → (p - 1) % k ≡ j → P l batches → P (p ∷ l) ((p ∷ []) ∷ batches))
+      → ((p : ℕ) (l : List ℕ) (batches : List (List ℕ)) → ((p - 1) % k ≡ j → ⊥) → P l batches → P (p ∷ l) batches)
+      → (l : List ℕ) → P l (its-batches k j l)
+  batches-by P base own other [] = base
+  batches-by P base own other (p ∷ rest) = by-test (eqb ((p - 1) % k) j) refl (batches-by P base own other rest)
+    where
+      by-test : (b : Bool) → eqb ((p - 1) % k) j ≡ b → P rest (its-batches k j rest)
+          → P (p ∷ rest) (if b then ((p ∷ []) ∷ its-batches k j rest) else its-batches k j rest)
+      by-test true e h = own p rest (its-batches k j rest) (eqb-true ((p - 1) % k) j e) h
+      by-test false e h = other p rest (its-batches k j rest) (eqb-false ((p - 1) % k) j e) h
+
   -- the batches of core j are not empty
   batches-not-empty : (l : List ℕ) → T (all not-empty (its-batches k j l))
-  batches-not-empty [] = tt
-  batches-not-empty (p ∷ rest) = by-test (eqb ((p - 1) % k) j) (batches-not-empty rest)
-    where
-      by-test : (b : Bool) → T (all not-empty (its-batches k j rest)) → T (all not-empty (if b then ((p ∷ []) ∷ its-batches k j rest) else its-batches k j rest))
-      by-test true h = h
-      by-test false h = h
+  batches-not-empty = batches-by (λ l batches. T (all not-empty batches)) tt (λ p l batches _ h. h) (λ p l batches _ h. h)
 
   -- what holds of each process holds of each of theirs
   batches-all : (f : ℕ → Bool) (l : List ℕ) → T (all f l) → T (all (all f) (its-batches k j l))
-  batches-all f [] h = tt
-  batches-all f (p ∷ rest) h =
-      let (here, later) = and-means (f p) (all f rest) .0 h in
-      by-test (eqb ((p - 1) % k) j) here (batches-all f rest later)
-    where
-      by-test : (b : Bool) → T (f p) → T (all (all f) (its-batches k j rest)) → T (all (all f) (if b then ((p ∷ []) ∷ its-batches k j rest) else its-batches k j rest))
-      by-test true t h = simp and-means ((t, tt), h)
-      by-test false t h = h
+  batches-all f =
+      batches-by (λ l batches. T (all f l) → T (all (all f) batches)) (λ _. tt)
+      (λ p l batches _ h t. let t′ = and-means (f p) (all f l) .0 t in simp and-means ((t′ .0, tt), h (t′ .1)))
+      (λ p l batches _ h t. h (and-means (f p) (all f l) .0 t .1))
 
-  -- a process whose core this is stands in them as often as in the list
-  batches-own : (q : ℕ) → (q - 1) % k ≡ j → (l : List ℕ) → total (times q) (its-batches k j l) ≡ times q l
-  batches-own q its [] = refl
-  batches-own q its (p ∷ rest) = by-test (eqb ((p - 1) % k) j) refl (batches-own q its rest)
-    where
-      by-test : (b : Bool) → eqb ((p - 1) % k) j ≡ b → total (times q) (its-batches k j rest) ≡ times q rest
-          → total (times q) (if b then ((p ∷ []) ∷ its-batches k j rest) else its-batches k j rest) ≡ times q (p ∷ rest)
-      by-test true e h = omega arith
-      by-test false e h = omega (arith, counts-not p q (λ same. eqb-false ((p - 1) % k) j e (rw (← same) its)))
+  module _ (q : ℕ) where
+    -- a process whose core this is stands in them as often as in the list
+    batches-own : (q - 1) % k ≡ j → (l : List ℕ) → total (times q) (its-batches k j l) ≡ times q l
+    batches-own its =
+        batches-by (λ l batches. total (times q) batches ≡ times q l) refl
+        (λ p l batches _ h. omega arith)
+        (λ p l batches other h. omega (arith, counts-not p q (λ same. other (rw (← same) its))))
 
-  -- and another doesn't stand there
-  batches-other : (q : ℕ) → ((q - 1) % k ≡ j → ⊥) → (l : List ℕ) → total (times q) (its-batches k j l) ≡ 0
-  batches-other q other [] = refl
-  batches-other q other (p ∷ rest) = by-test (eqb ((p - 1) % k) j) refl (batches-other q other rest)
-    where
-      by-test : (b : Bool) → eqb ((p - 1) % k) j ≡ b → total (times q) (its-batches k j rest) ≡ 0
-          → total (times q) (if b then ((p ∷ []) ∷ its-batches k j rest) else its-batches k j rest) ≡ 0
-      by-test true e h = omega (arith, counts-not p q (λ same. other (rw same (eqb-true ((p - 1) % k) j e))))
-      by-test false e h = h
+    -- and another doesn't stand there
+    batches-other : ((q - 1) % k ≡ j → ⊥) → (l : List ℕ) → total (times q) (its-batches k j l) ≡ 0
+    batches-other other =
+        batches-by (λ l batches. total (times q) batches ≡ 0) refl
+        (λ p l batches own h. omega (arith, counts-not p q (λ same. other (rw same own))))
+        (λ p l batches _ h. h)
 
 -- The channels
 
@@ -124,7 +123,7 @@ channels-good w (e ∷ rest) h =
     let (named, after) = past both _ NAME h in
     let (differ, later) = apart (eqb (e .writer) (e .reader)) after in
     and-means (valid-channel w (new-channel e)) _ .1
-      (good-channel-tested w (new-channel e) (record { ends = and-means both (if eqb (e .writer) (e .reader) then false else true) .1 (named, differ); word = tt; transfers = omega arith }), channels-good w rest later)
+    (good-channel-tested w (new-channel e) (record { ends = and-means both (if eqb (e .writer) (e .reader) then false else true) .1 (named, differ); word = tt; transfers = omega arith }), channels-good w rest later)
   where
     apart : (b : Bool) → (if b then some SELF else proper-pairs (w .N) rest) ≡ none → T (if b then false else true) × (proper-pairs (w .N) rest ≡ none)
     apart true after = absurd (not-refused SELF after)
@@ -158,8 +157,8 @@ module _ (k n : ℕ) (pairs : List ℕ) where
       let (low, high) = simp tests at is in
       let once : times p (from 1 n) ≡ bit (eqb p p) = total-one (λ i. i) (λ (x : ℕ). bit (eqb x p)) p (λ i other. counts-not i p (λ e. other (sym e))) 1 n low (omega arith) in
       let alone =
-            total-one (new-core k n) (queued-in p) its-core (λ j other. omega (arith, batches-other k j p (λ e. other (sym e)) (from 1 n))) 0 k (omega arith)
-              (omega (arith, mod-lt (p - 1) some-core)) in
+      total-one (new-core k n) (queued-in p) its-core (λ j other. omega (arith, batches-other k j p (λ e. other (sym e)) (from 1 n))) 0 k (omega arith)
+      (omega (arith, mod-lt (p - 1) some-core)) in
       omega (arith, alone, batches-own k its-core p refl (from 1 n), once, counts-once p)
 
   set-up-good : T (sizes k n (length (ends-of pairs))) → proper-pairs n (ends-of pairs) ≡ none → Valid set-up-wiring (set-up-state k n pairs)
@@ -170,9 +169,9 @@ module _ (k n : ℕ) (pairs : List ℕ) where
         sized = sized;
         cores = tabulate-all (valid-core set-up-wiring) (new-core k n) 0 k (λ j low high. good-core-tested set-up-wiring (new-core k n j) (core-good j));
         others =
-          λ p is _.
+            λ p is _.
             rw (set-up-process p is, set-up-cores p, set-up-queues p (omega (arith, simp tests at sized)) is)
-              (record { word = omega arith; count = omega arith; in-hand = tt; fitting = tt; standing = tt });
+            (record { word = omega arith; count = omega arith; in-hand = tt; fitting = tt; standing = tt });
         channels = channels-good set-up-wiring (ends-of pairs) proper;
       }
     where
@@ -184,7 +183,7 @@ module _ (k n : ℕ) (pairs : List ℕ) where
             batches = batches-not-empty k j (from 1 n);
             active = tt;
             waiting =
-              batches-all k j (is-process set-up-wiring) (from 1 n)
+                batches-all k j (is-process set-up-wiring) (from 1 n)
                 (tabulate-all (is-process set-up-wiring) (λ i. i) 1 n (λ p low high. simp tests (low, omega arith)));
           }
 
@@ -194,4 +193,4 @@ set-up-valid k n m pairs size h =
     let (paired, after-pairs) = past (eqb (length pairs) (2 * m)) _ PAIRS after-size in
     let (_, proper) = past (eqb size (room k n m)) _ ROOM after-pairs in
     tested (set-up-wiring k n pairs) (set-up-state k n pairs)
-      (set-up-good k n pairs (rw (ends-length pairs m (eqb→eq (length pairs) (2 * m) paired)) sized) proper)
+    (set-up-good k n pairs (rw (ends-length pairs m (eqb→eq (length pairs) (2 * m) paired)) sized) proper)

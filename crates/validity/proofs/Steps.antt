@@ -28,19 +28,15 @@ use Rattle.rules.specs.Rule.{run}
 use Rattle.rules.specs.Steps.{next, after-look, look-step, outcome, parked, park-step, copy-step, clear-step, reports, wake-step}
 use Rattle.rules.specs.Soundness.{is-process, own-end, valid-stage, valid-progress, valid-word}
 use Rattle.validity.proofs.Tests.{and-means}
-use Rattle.validity.proofs.Reflect.{Good, Valid}
-use Rattle.validity.proofs.Places.{good-of, Runs}
+use Rattle.validity.proofs.Reflect.{Good, Valid, good-of}
+use Rattle.validity.proofs.Places.{Runs}
 use Rattle.validity.proofs.Channels.{channel-good, word-written, transfers-written}
 use Rattle.validity.proofs.Rules.{Accepts, still-runs, data-written, next-keeps, reports-keeps, sleeps-keeps, core-written, wakes-keeps}
 
 module _ {w : Wiring} {k p : ℕ} {s : State} (way : Way) (c : ℕ) (h : Runs w k p s) (own : T (own-end w way p c)) where
-  -- the channel is one of the table's
-  numbered : T (within 1 (length (w .ends)) c)
-  numbered = and-means (within 1 (length (w .ends)) c) _ .0 own .0
-
   -- the process in its word, if there is one, is one of the table's
   pub its-word : T (valid-word w (get channel-word s c))
-  its-word = channel-good c (h .valid) numbered .word
+  its-word = channel-good way p c (h .valid) own .word
 
   -- an outcome of p at the channel
   outcome-due : (way′ : Way) → T (own-end w way′ p c) → T (valid-progress w p (due (outcome way′ c)))
@@ -67,27 +63,27 @@ module _ {w : Wiring} {k p : ℕ} {s : State} (way : Way) (c : ℕ) (h : Runs w 
 module _ {w : Wiring} {k p : ℕ} {s : State} (way : Way) (c : ℕ) (h : Runs w k p s) (own : T (own-end w way p c)) where
   pub park-keeps : Accepts (Valid w) (run (park-step k p way c) s)
   park-keeps =
-      parked-keeps way c (still-runs h refl (word-written c (h .valid) (numbered way c h own) (plain p) (h .named))) own (get channel-word s c)
-        (its-word way c h own)
+      parked-keeps way c (still-runs h refl (word-written way p c (h .valid) own (plain p) (h .named))) own (get channel-word s c)
+      (its-word way c h own)
 
   module _ (q : ℕ) (named : T (is-process w q)) where
     pub clear-keeps : Accepts (Valid w) (run (clear-step p way c q) s)
     clear-keeps =
-        next-keeps (still-runs h refl (word-written c (h .valid) (numbered way c h own) nobody tt)) (wake way c q)
-          (with-partner way c h own q named)
+        next-keeps (still-runs h refl (word-written way p c (h .valid) own nobody tt)) (wake way c q)
+        (with-partner way c h own q named)
 
     pub wake-keeps : Accepts (Valid w) (run (wake-step k p way c q) s)
     wake-keeps =
         wakes-keeps k (h .valid) (h .on) (Valid w) q (reports p (outcome way c)) named
-          (λ v. reports-keeps (still-runs h (ap (λ (x : Core). x .work) (core-written k (h .valid) (h .on) _)) v) (outcome way c))
+        (λ v. reports-keeps (still-runs h (ap (λ (x : Core). x .work) (core-written k (h .valid) (h .on) _)) v) (outcome way c))
 
     -- the data word of y is written into that of x, and counted
     copied : (x y : ℕ) → T (is-process w x) → T (is-process w y)
         → Accepts (Valid w) (run (next p (clear way c q)) (put transfers c ((get transfers s c + 1) % 4294967296) (put data-word x (get data-word s y) s)))
     copied x y to-named from-named =
         let written = data-written (h .valid) x to-named (get data-word s y) (good-of y (h .valid) from-named .word) in
-        next-keeps (still-runs h refl (transfers-written c written (numbered way c h own) _ (omega arith))) (clear way c q)
-          (with-partner way c h own q named)
+        next-keeps (still-runs h refl (transfers-written way p c written own _ (omega arith))) (clear way c q)
+        (with-partner way c h own q named)
 
 pub copy-keeps : {w : Wiring} {k p : ℕ} {s : State} (way : Way) (c q : ℕ) → Runs w k p s → T (own-end w way p c) → T (is-process w q)
     → Accepts (Valid w) (run (copy-step p way c q) s)

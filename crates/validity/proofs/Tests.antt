@@ -4,7 +4,7 @@ use native.Mathlib.Omega.{arith}
 use native.Mathlib.Decide.{ℕ-discrete}
 use mathlib.Core.Path.{_≡_, refl, ap, subst}
 use mathlib.Core.Logic.{_↔_}
-use mathlib.Core.Bool.{Bool, true, false, _&&_}
+use mathlib.Core.Bool.{Bool, true, false, _&&_, _||_}
 use mathlib.Core.List.{List, [], _∷_, _++_}
 use lib.Dec.{T, eqb, leb, leb→le, le→leb, eqb→eq, eqb-refl}
 use lib.ListN.{length, getD, set}
@@ -28,6 +28,22 @@ pub unless-means : (b : Bool) → T (if b then false else true) ↔ (T b → ⊥
 unless-means true = ((λ h _. h), (λ h. h tt))
 unless-means false = ((λ _ h. h), (λ _. tt))
 
+-- a disjunction holds where its first half does
+pub or-left : (a b : Bool) → T a → T (a || b)
+or-left true b h = tt
+or-left false b h = absurd h
+
+-- where its second half does
+pub or-right : (a b : Bool) → T b → T (a || b)
+or-right true b h = tt
+or-right false b h = h
+
+-- and only there
+pub or-cases : {C : Type 0} (a b : Bool) → T (a || b) → (T a → C) → (T b → C) → C
+or-cases true b h f g = f tt
+or-cases false b h f g = g h
+
+-- a test as the facts that it stands for
 pub ruleset tests = (and-means, leb-means, eqb-means)
 
 module _ {A : Type 0} (f : A → Bool) where
@@ -62,10 +78,9 @@ all-from f a (suc n) i h low high = go (all-from f (suc a) n i) (ℕ-discrete a 
     go later (yes e) = subst (λ (x : ℕ). T (f x)) e ((simp and-means at h) .0)
     go later (no ne) = later ((simp and-means at h) .1) (omega arith) (omega arith)
 
-
 -- a test that holds of f a, f (a + 1), .. (n of them) holds of each of their list
 pub tabulate-all : {A : Type 0} (f : A → Bool) (g : ℕ → A) (a n : ℕ) → ((i : ℕ) → a ≤ i → i < a + n → T (f (g i))) → T (all f (tabulate g a n))
 tabulate-all f g a zero h = tt
 tabulate-all f g a (suc n) h =
     and-means (f (g a)) _ .1
-      (h a (omega arith) (omega arith), tabulate-all f g (suc a) n (λ i low high. h i (omega arith) (omega arith)))
+    (h a (omega arith) (omega arith), tabulate-all f g (suc a) n (λ i low high. h i (omega arith) (omega arith)))
