@@ -1,15 +1,15 @@
 -- What a write to one record of a state leaves valid.
-use Prim.Native.Nat.{ℕ, zero, suc, _+_, _≤_, _<_}
+use Prim.Native.Nat.{ℕ, zero, suc, _+_, _<_}
 use native.Mathlib.Omega.{arith}
 use native.Mathlib.Decide.{ℕ-discrete}
 use mathlib.Core.Path.{_≡_, refl, sym, ap, subst, _∙_}
 use mathlib.Core.Bool.{Bool}
 use mathlib.Core.List.{List, map}
 use lib.Dec.{T}
-use lib.ListN.{length, getD, set, length-set}
+use lib.ListN.{length, length-set}
 use lib.Seq.{getD-set-same, getD-set-other, map-set-same}
 use Rattle.rules.specs.Lists.{nth, set-nth, within, all, total, times}
-use Rattle.rules.specs.State.{Place, Progress, Alternation, Process, Core, queues-of, Ends, Channel, State, Wiring, wiring}
+use Rattle.rules.specs.State.{Place, Progress, Alternation, Process, Core, queues-of, Channel, State, Wiring}
 use Rattle.rules.specs.Items.{core, put, no-core, no-process, no-channel, core-of, process-of, channel-of}
 use Rattle.rules.specs.Soundness.{is-process, valid-progress, fits, runs-it, on-cores, in-queues, stands, valid-core, valid-channel}
 use Rattle.validity.proofs.Tests.{tests, all-set}
@@ -18,28 +18,28 @@ use Rattle.validity.proofs.Reflect.{Good, AllBut, Valid, good-of}
 
 module _ {A : Type 0} where
   -- a list with another n-th is as long as before
-  pub length-set-nth : (l : List A) (n : ℕ) (a : A) → length (set-nth l n a) ≡ length l
+  length-set-nth : (l : List A) (n : ℕ) (a : A) → length (set-nth l n a) ≡ length l
   length-set-nth l zero a = refl
   length-set-nth l (suc i) a = length-set l i a
 
   -- its n-th is the new one
-  pub nth-set-same : (l : List A) (n : ℕ) (a d : A) → T (within 1 (length l) n) → nth (set-nth l n a) n d ≡ a
+  nth-set-same : (l : List A) (n : ℕ) (a d : A) → T (within 1 (length l) n) → nth (set-nth l n a) n d ≡ a
   nth-set-same l zero a d h = absurd (omega (arith, simp tests at h))
   nth-set-same l (suc i) a d h = getD-set-same l i a d (omega (arith, simp tests at h))
 
   -- the others are as before
-  pub nth-set-other : (l : List A) (n m : ℕ) (a d : A) → (m ≡ n → ⊥) → nth (set-nth l n a) m d ≡ nth l m d
+  nth-set-other : (l : List A) (n m : ℕ) (a d : A) → (m ≡ n → ⊥) → nth (set-nth l n a) m d ≡ nth l m d
   nth-set-other l zero m a d h = refl
   nth-set-other l (suc i) zero a d h = refl
   nth-set-other l (suc i) (suc j) a d h = getD-set-other l i j a d (λ e. h (ap suc e))
 
   -- what is read off each is as before, if it is so of the n-th
-  pub map-set-nth : {B : Type 0} (f : A → B) (l : List A) (n : ℕ) (a d : A) → f a ≡ f (nth l n d) → map f (set-nth l n a) ≡ map f l
+  map-set-nth : {B : Type 0} (f : A → B) (l : List A) (n : ℕ) (a d : A) → f a ≡ f (nth l n d) → map f (set-nth l n a) ≡ map f l
   map-set-nth f l zero a d h = refl
   map-set-nth f l (suc i) a d h = map-set-same f l i a d h
 
   -- what holds of each goes on holding, if it holds of the new one
-  pub all-set-nth : (f : A → Bool) (l : List A) (n : ℕ) (a : A) → T (all f l) → T (f a) → T (all f (set-nth l n a))
+  all-set-nth : (f : A → Bool) (l : List A) (n : ℕ) (a : A) → T (all f l) → T (f a) → T (all f (set-nth l n a))
   all-set-nth f l zero a h t = h
   all-set-nth f l (suc i) a h t = all-set f l i a h t
 

@@ -1,15 +1,14 @@
 -- The channels of a valid state, and what may be written into one.
-use Prim.Native.Nat.{ℕ, zero, suc, _+_, _≤_, _<_}
-use native.Mathlib.Omega.{arith}
+use Prim.Native.Nat.{ℕ, suc, _<_}
 use mathlib.Core.Path.{_≡_, refl, sym, ap, _∙_}
 use mathlib.Core.Bool.{false, true, _&&_}
 use lib.Dec.{T, eqb}
 use lib.ListN.{length, length-map}
-use Rattle.rules.specs.Lists.{if_then_else_, nth, within, all}
+use Rattle.rules.specs.Lists.{if_then_else_, within}
 use Rattle.rules.specs.State.{Way, ChannelWord, Channel, State, Wiring, end-of}
 use Rattle.rules.specs.Items.{channel-word, transfers, put, no-channel, channel-of}
 use Rattle.rules.specs.Soundness.{is-process, own-end, valid-word, valid-channel}
-use Rattle.validity.proofs.Tests.{tests, and-means, leb-means, all-nth}
+use Rattle.validity.proofs.Tests.{and-means, leb-means, all-nth}
 use Rattle.validity.proofs.Reflect.{Valid}
 use Rattle.validity.proofs.Changes.{set-channel}
 
@@ -22,7 +21,9 @@ pub record GoodChannel (w : Wiring) (c : Channel) : Type 0 where
 -- `valid-channel` is the fact
 good-channel : (w : Wiring) (c : Channel) → T (valid-channel w c) → GoodChannel w c
 unfolding valid-channel
-good-channel w c h = let h′ = simp and-means at h in record { ends = simp and-means (h′ .0 .0); word = h′ .0 .1; transfers = (leb-means _ _) .0 (h′ .1) }
+good-channel w c h =
+    let h′ = simp and-means at h in
+    record { ends = simp and-means (h′ .0 .0); word = h′ .0 .1; transfers = leb-means (suc (c .transfers)) 4294967296 .0 (h′ .1) }
 
 -- and the other way
 pub good-channel-tested : (w : Wiring) (c : Channel) → GoodChannel w c → T (valid-channel w c)
@@ -35,7 +36,7 @@ module _ {w : Wiring} {s : State} (way : Way) (p c : ℕ) (v : Valid w s) (own :
   channel-good =
       let numbered = and-means (within 1 (length (w .ends)) c) (eqb (end-of w way c) p) .0 own .0 in
       let as-many : length (s .channels) ≡ length (w .ends) =
-          sym (length-map (s .channels) (λ (x : Channel). x .ends)) ∙ ap (λ (x : Wiring). length (x .ends)) (v .wired) in
+      sym (length-map (s .channels) (λ (x : Channel). x .ends)) ∙ ap (λ (x : Wiring). length (x .ends)) (v .wired) in
       good-channel w (channel-of s c) (all-nth (valid-channel w) (s .channels) c no-channel (v .channels) (rw as-many numbered))
 
   -- another word, of a process, may stand in it

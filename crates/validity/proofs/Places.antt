@@ -1,13 +1,12 @@
 -- Where a process stands, and the moves between its places.
-use Prim.Native.Nat.{ℕ, zero, suc, _+_, _≤_, _<_}
+use Prim.Native.Nat.{ℕ, suc, _+_, _≤_, _<_}
 use native.Mathlib.Omega.{arith}
-use mathlib.Core.Path.{_≡_, refl, sym, ap, subst, _∙_}
+use mathlib.Core.Path.{_≡_, refl, ap}
 use mathlib.Core.Bool.{true}
 use mathlib.Core.List.{List, [], _∷_, _++_}
 use lib.Dec.{T}
-use lib.ListN.{length}
-use Rattle.rules.specs.Lists.{all, total, times}
-use Rattle.rules.specs.State.{Place, running, queued, asleep, ended, Process, Task, Work, runs, free, Core, queues-of, State, Wiring}
+use Rattle.rules.specs.Lists.{all}
+use Rattle.rules.specs.State.{Place, running, queued, asleep, ended, Process, Task, Work, runs, free, Core, State, Wiring}
 use Rattle.rules.specs.Items.{core, put, no-core, core-of, process-of}
 use Rattle.rules.specs.Steps.{with-work, with-active}
 use Rattle.rules.specs.Soundness.{is-process, runs-it, on-cores, in-queues, stands, valid-work, not-empty, valid-core}
@@ -107,7 +106,8 @@ module _ {w : Wiring} {p : ℕ} {r : Process} {here there : ℕ} {s : State} (k 
   -- p, at the head of core k's active queue, is taken
   pub taken-off : (rest : List ℕ) (n : ℕ) (t : Task) → core-of s k .work ≡ free t → core-of s k .active ≡ p ∷ rest → core-of s k .dispatch ≡ suc n
       → there ≡ 1 → here ≡ 0
-      → Open w p r 1 0 (put core k (record { work = runs p; active = rest; dispatch = n; mark = core-of s k .mark; run-queue = core-of s k .run-queue }) s)
+      → Open w p r 1 0
+      (put core k (record { work = runs p; active = rest; dispatch = n; mark = core-of s k .mark; run-queue = core-of s k .run-queue }) s)
   taken-off rest n t work active dispatch once nowhere =
       let g = core-good p k (o .rest) on in
       let shorter = and-means (is-process w p) (all (is-process w) rest) .0 (rw active at (g .active)) .1 in

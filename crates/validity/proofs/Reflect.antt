@@ -1,17 +1,14 @@
 -- Validity as facts: of a state all of whose processes but one are as they should be, and of that one.
-use Prim.Native.Nat.{ℕ, zero, suc, _+_, _≤_, _<_}
+use Prim.Native.Nat.{ℕ, _≤_, _<_}
 use native.Mathlib.Omega.{arith}
-use mathlib.Core.Path.{_≡_, refl, sym, ap, subst}
-use mathlib.Core.Bool.{Bool, _&&_}
-use mathlib.Core.List.{List, map}
-use lib.Dec.{T, leb}
+use mathlib.Core.Path.{_≡_, refl, sym, subst}
+use lib.Dec.{T}
 use lib.ListN.{length, length-map}
-use Rattle.rules.specs.Lists.{within, all, from}
+use Rattle.rules.specs.Lists.{all}
 use Rattle.rules.specs.State.{Process, Channel, State, Wiring, wiring}
 use Rattle.rules.specs.Items.{process-of}
 use Rattle.rules.specs.SetUp.{sizes}
 use Rattle.rules.specs.Soundness.{
-  word32,
   is-process,
   valid-progress,
   fits,
@@ -50,14 +47,14 @@ pub good-of : {w : Wiring} {s : State} (p : ℕ) → Valid w s → T (is-process
 good-of p v is = v .others p is (λ e. omega (arith, simp tests at is))
 
 -- `valid-process` is the fact
-pub good : (s : State) (p : ℕ) → T (valid-process s p) → Good (wiring s) p (process-of s p) (on-cores s p) (in-queues s p)
+good : (s : State) (p : ℕ) → T (valid-process s p) → Good (wiring s) p (process-of s p) (on-cores s p) (in-queues s p)
 unfolding valid-process
 good s p h =
     let h′ = simp (and-means, leb-means) at h in
     record { word = h′ .0 .0 .0 .0; count = h′ .0 .0 .0 .1; in-hand = h′ .0 .0 .1; fitting = h′ .0 .1; standing = h′ .1 }
 
 -- and the other way
-pub good-tested : (s : State) (p : ℕ) → Good (wiring s) p (process-of s p) (on-cores s p) (in-queues s p) → T (valid-process s p)
+good-tested : (s : State) (p : ℕ) → Good (wiring s) p (process-of s p) (on-cores s p) (in-queues s p) → T (valid-process s p)
 unfolding valid-process
 good-tested s p g = simp (and-means, leb-means) ((((g .word, g .count), g .in-hand), g .fitting), g .standing)
 
@@ -70,7 +67,10 @@ reflected s h =
       wired = refl;
       sized = rw (length-map (s .channels) (λ (c : Channel). c .ends)) (simp and-means (h′ .0 .0 .0));
       cores = h′ .0 .0 .1;
-      others = λ q is _. good s q (all-from (valid-process s) 1 (length (s .processes)) q (h′ .0 .1) ((simp tests at is) .0) (omega (arith, simp tests at is)));
+      others =
+          λ q is _.
+          let (low, high) = simp tests at is in
+          good s q (all-from (valid-process s) 1 (length (s .processes)) q (h′ .0 .1) low (omega arith));
       channels = h′ .1;
     }
 
@@ -79,6 +79,7 @@ pub tested : (w : Wiring) (s : State) → Valid w s → T (valid s)
 unfolding valid
 tested w s valid-at-w = at-its-own (subst (λ (x : Wiring). Valid x s) (sym (valid-at-w .wired)) valid-at-w)
   where
+    -- at the state's own wiring
     at-its-own : Valid (wiring s) s → T (valid s)
     at-its-own v =
         let sized = rw (length-map (s .channels) (λ (c : Channel). c .ends)) at (v .sized) in

@@ -1,16 +1,14 @@
 -- The steps of a core keep a state valid.
-use Prim.Native.Nat.{ℕ, zero, suc, _+_, _*_, _≤_, _<_, min}
+use Prim.Native.Nat.{ℕ, zero, suc, _≤_, _<_}
 use native.Mathlib.Omega.{arith}
-use mathlib.Core.Path.{_≡_, refl, sym, ap, _∙_}
+use mathlib.Core.Path.{_≡_, refl, sym, ap}
 use mathlib.Core.Bool.{Bool, true, false}
-use mathlib.Core.List.{List, [], _∷_, _++_}
+use mathlib.Core.List.{List, [], _∷_}
 use mathlib.Core.Option.{Option}
 use lib.Dec.{T}
-use lib.ListN.{length}
 use Rattle.rules.specs.Lists.{all, total, times}
 use Rattle.rules.specs.State.{
   running,
-  queued,
   Way,
   Stage,
   look,
@@ -32,14 +30,12 @@ use Rattle.rules.specs.State.{
   doing,
   due,
   Process,
-  Task,
   no-task,
   trigger,
   wake-up,
   Work,
   runs,
   free,
-  Core,
   State,
   Wiring,
 }
@@ -55,18 +51,16 @@ use Rattle.rules.specs.Soundness.{
   valid-enabling,
   valid-disabling,
   valid-stage,
-  valid-progress,
   fits,
   on-cores,
   in-queues,
-  valid-work,
   not-empty,
 }
-use Rattle.validity.proofs.Tests.{tests, and-means, all-append}
+use Rattle.validity.proofs.Tests.{and-means, all-append}
 use Rattle.validity.proofs.Sums.{total-append, counts-once}
 use Rattle.validity.proofs.Reflect.{Good, Valid, good-of}
 use Rattle.validity.proofs.Changes.{with-place, with-progress, refit, Open, open-at, close, change, queued-in, queues-after}
-use Rattle.validity.proofs.Places.{stands-once, GoodCore, core-good, same-standing, taken-off, Runs, running-good, works-on, runs-there}
+use Rattle.validity.proofs.Places.{stands-once, core-good, same-standing, taken-off, Runs, running-good, works-on, runs-there}
 use Rattle.validity.proofs.Rules.{Accepts, reports-clears}
 use Rattle.validity.proofs.Steps.{look-keeps, park-keeps, copy-keeps, clear-keeps, wake-keeps}
 use Rattle.validity.proofs.Choice.{
@@ -104,39 +98,27 @@ stored-all f true p (x ∷ rest) h = and-means (all f (p ∷ (x ∷ rest))) true
 stored-all f false p (x ∷ rest) h = simp and-means (let h′ = simp and-means at h in ((h′ .0, tt), (h′ .1, tt)))
 
 module _ {w : Wiring} {k : ℕ} {s : State} (v : Valid w s) (on : k < w .K) where
+  -- store
   store-keeps : (p : ℕ) (rest : List ℕ) → core-of s k .active ≡ p ∷ rest → Accepts (Valid w) (run (store-step k (core-of s k) p rest) s)
   store-keeps p rest active =
       let g = core-good 0 k v on in
-      let mark = core-of s k .mark in
+      let more = stored (core-of s k .mark) p rest in
+      let filled = all-append not-empty (core-of s k .run-queue) more (g .batches) (stored-not-empty (core-of s k .mark) p rest) in
+      let named = stored-all (is-process w) (core-of s k .mark) p rest (rw active at (g .active)) in
+      let all-named = all-append (all (is-process w)) (core-of s k .run-queue) more (g .waiting) named in
       same-standing k _ v on
-      (
-      record {
-        working = g .working;
-        dispatching = g .dispatching;
-        batches = all-append not-empty (core-of s k .run-queue) (stored mark p rest) (g .batches) (stored-not-empty mark p rest);
-        active = tt;
-        waiting =
-            all-append (all (is-process w)) (core-of s k .run-queue) (stored mark p rest) (g .waiting)
-            (stored-all (is-process w) mark p rest (rw active at (g .active)));
-      }
-      )
+      (record { working = g .working; dispatching = g .dispatching; batches = filled; active = tt; waiting = all-named })
       (λ q. record { works = refl; queues = simp (total-append, stored-total, active) (omega arith) })
 
+  -- load
   load-keeps : (batch : List ℕ) (rest : List (List ℕ)) → core-of s k .active ≡ [] → core-of s k .run-queue ≡ batch ∷ rest
       → Accepts (Valid w) (run (load-step k (core-of s k) batch rest) s)
   load-keeps batch rest active run-queue =
       let g = core-good 0 k v on in
-      let waiting = and-means (all (is-process w) batch) _ .0 (rw run-queue at (g .waiting)) in
+      let filled = and-means (not-empty batch) (all not-empty rest) .0 (rw run-queue at (g .batches)) in
+      let named = and-means (all (is-process w) batch) (all (all (is-process w)) rest) .0 (rw run-queue at (g .waiting)) in
       same-standing k _ v on
-      (
-      record {
-        working = g .working;
-        dispatching = omega arith;
-        batches = and-means (not-empty batch) _ .0 (rw run-queue at (g .batches)) .1;
-        active = waiting .0;
-        waiting = waiting .1;
-      }
-      )
+      (record { working = g .working; dispatching = omega arith; batches = filled .1; active = named .0; waiting = named .1 })
       (λ q. record { works = refl; queues = rw (active, run-queue) (omega arith) })
 
   -- the head of the active queue is queued, once
@@ -148,12 +130,15 @@ module _ {w : Wiring} {k : ℕ} {s : State} (v : Valid w s) (on : k < w .K) wher
       let once = stands-once (process-of s p .place) (on-cores s p) (in-queues s p) (good-of p v named .standing) in
       open-at p v named (omega arith) (omega arith)
 
+  -- take
   take-keeps : (p : ℕ) (rest : List ℕ) (n : ℕ) → core-of s k .work ≡ free no-task → core-of s k .active ≡ p ∷ rest → core-of s k .dispatch ≡ suc n
       → Accepts (Valid w) (run (take-step k (core-of s k) p rest n) s)
   take-keeps p rest n work active dispatch = by-progress (get progress now p) (sym (ap (λ (r : Process). r .progress) (o .its-record)))
     where
       now : State
-      now = put place p running (put core k (record { work = runs p; active = rest; dispatch = n; mark = core-of s k .mark; run-queue = core-of s k .run-queue }) s)
+      now =
+          put place p running
+          (put core k (record { work = runs p; active = rest; dispatch = n; mark = core-of s k .mark; run-queue = core-of s k .run-queue }) s)
 
       o : Open w p (with-place running (process-of s p)) 1 0 now
       o = change (with-place running) (taken-off k (head-open p rest active) on rest n no-task work active dispatch refl refl)
@@ -161,6 +146,7 @@ module _ {w : Wiring} {k : ℕ} {s : State} (v : Valid w s) (on : k < w .K) wher
       g : Good w p (process-of s p) (on-cores s p) (in-queues s p)
       g = good-of p v (o .named)
 
+      -- where nothing is reported
       goes-on : T (fits running (process-of s p .progress)) → Valid w now
       goes-on fit = close o (refit g running (process-of s p .progress) (g .in-hand) fit tt)
 
@@ -171,6 +157,7 @@ module _ {w : Wiring} {k : ℕ} {s : State} (v : Valid w s) (on : k < w .K) wher
           reports-clears (Valid w) now p out
           (close (change (with-progress nothing) o) (refit g running nothing tt tt tt))
 
+  -- whichever of the four it is
   schedule-keeps : (n : ℕ) (a : List ℕ) (b : List (List ℕ)) → core-of s k .work ≡ free no-task → core-of s k .dispatch ≡ n → core-of s k .active ≡ a
       → core-of s k .run-queue ≡ b → Accepts (Valid w) (run (schedule k (core-of s k) n a b) s)
   schedule-keeps (suc n) (p ∷ rest) batches work dispatch active run-queue = take-keeps p rest n work active dispatch
@@ -181,13 +168,15 @@ module _ {w : Wiring} {k : ℕ} {s : State} (v : Valid w s) (on : k < w .K) wher
 -- The stages of a request
 
 module _ {w : Wiring} {k p : ℕ} {s : State} (h : Runs w k p s) where
-  -- the tests of a stage with a partner, at a guard, and with a first ready guard
+  -- the tests of a stage with a partner
   partnered : (way : Way) (c q : ℕ) → T (valid-stage w p (copy way c q)) → T (own-end w way p c) × T (is-process w q)
   partnered way c q its = and-means (own-end w way p c) (is-process w q) .0 its
 
+  -- of one at a guard
   guarded : (gs : List ℕ) (i : ℕ) → T (valid-enabling w p gs i) → T (own-guards w p gs) × T (in-list gs i)
   guarded gs i its = and-means (own-guards w p gs) (in-list gs i) .0 its
 
+  -- of one with a first ready guard
   with-ready : (gs : List ℕ) (i : ℕ) (r : Option ℕ) → T (valid-disabling w p gs i r) → T (valid-enabling w p gs i) × T (ready-in-list gs r)
   with-ready gs i r its = and-means (valid-enabling w p gs i) (ready-in-list gs r) .0 its
 
@@ -212,8 +201,9 @@ module _ {w : Wiring} {k p : ℕ} {s : State} (h : Runs w k p s) where
       let (here, ready) = with-ready gs i r its in
       let (own, inside) = guarded gs i here in
       lower-keeps h gs own i inside r ready
-  stage-keeps (finish gs r) its = let both = and-means (own-guards w p gs) (ready-in-list gs r) .0 its in finish-keeps h gs (both .0) r (both .1)
+  stage-keeps (finish gs r) its = let (own, ready) = and-means (own-guards w p gs) (ready-in-list gs r) .0 its in finish-keeps h gs own r ready
 
+  -- whatever p has in hand
   running-keeps : (x : Progress) → get progress s p ≡ x → Accepts (Valid w) (run (running-step k p x) s)
   running-keeps nothing e = tt
   running-keeps (doing x) e = stage-keeps x (rw e at (running-good h .in-hand))
@@ -227,5 +217,6 @@ module _ {w : Wiring} {s : State} (k : ℕ) (v : Valid w s) (on : k < w .K) wher
   work-keeps (free (trigger q)) e = trigger-keeps q v on (works-on k v on (free (trigger q)) e) e
   work-keeps (free (wake-up q)) e = wake-task-keeps q v on (works-on k v on (free (wake-up q)) e) e
 
+  -- the next step of the core
   pub step-keeps : Accepts (Valid w) (run (step k) s)
   step-keeps = work-keeps (core-of s k .work) refl

@@ -3,33 +3,35 @@ use Prim.Native.Nat.{ℕ, zero, suc, _+_, _*_, _-_, _%_, _≤_, _<_}
 use native.Mathlib.Omega.{arith}
 use native.Mathlib.Decide.{ℕ-discrete}
 use native.Mathlib.Nat.{mod-lt}
-use mathlib.Core.Path.{_≡_, refl, sym, ap, subst, _∙_}
+use mathlib.Core.Path.{_≡_, refl, sym, ap, _∙_}
 use mathlib.Core.Bool.{Bool, true, false, _&&_}
 use mathlib.Core.List.{List, [], _∷_, map}
 use mathlib.Core.Option.{Option, none, some}
 use lib.Dec.{T, eqb, eqb→eq}
 use lib.ListN.{length, getD}
 use borrow.Author.Tests.{eqb-true, eqb-false}
-use Rattle.rules.specs.Lists.{if_then_else_, nth, within, all, total, tabulate, from, bit, times}
+use Rattle.rules.specs.Lists.{if_then_else_, within, all, total, tabulate, from, bit, times}
 use Rattle.rules.specs.Numbers.{Refusal, SIZE, PAIRS, ROOM, NAME, SELF}
-use Rattle.rules.specs.State.{Process, Core, Ends, Channel, State, Wiring, wiring}
+use Rattle.rules.specs.State.{Ends, Channel, Wiring, wiring}
 use Rattle.rules.specs.Items.{no-process, process-of}
 use Rattle.rules.specs.SetUp.{room, sizes, ends-of, proper-pairs, set-up-refusal, its-batches, new-core, new-process, new-channel, set-up-state}
 use Rattle.rules.specs.Soundness.{is-process, on-cores, in-queues, not-empty, valid-core, valid-channel, valid}
 use Rattle.validity.proofs.Tests.{tests, and-means, tabulate-all}
 use Rattle.validity.proofs.Sums.{counts-once, counts-not}
-use Rattle.validity.proofs.Reflect.{Good, Valid, tested}
+use Rattle.validity.proofs.Reflect.{Valid, tested}
 use Rattle.validity.proofs.Changes.{queued-in}
 use Rattle.validity.proofs.Places.{GoodCore, good-core-tested}
-use Rattle.validity.proofs.Channels.{good-channel-tested}
+use Rattle.validity.proofs.Channels.{GoodChannel, good-channel-tested}
 
 -- Lists by their numbers
 
 module _ {A : Type 0} (g : ℕ → A) where
+  -- the length of n of them
   length-tabulate : (a n : ℕ) → length (tabulate g a n) ≡ n
   length-tabulate a zero = refl
   length-tabulate a (suc n) = ap suc (length-tabulate (suc a) n)
 
+  -- the one at a place
   getD-tabulate : (a n i : ℕ) (d : A) → i < n → getD (tabulate g a n) i d ≡ g (a + i)
   getD-tabulate a zero i d h = absurd (omega arith)
   getD-tabulate a (suc n) zero d h = ap g (omega arith)
@@ -46,7 +48,8 @@ module _ {A : Type 0} (g : ℕ → A) where
     total-one x h a zero low high = absurd (omega arith)
     total-one x h a (suc n) low high = at-head (ℕ-discrete a x) (total-one x h (suc a) n)
       where
-        at-head : Dec (a ≡ x) → (suc a ≤ x → x < suc a + n → total f (tabulate g (suc a) n) ≡ f (g x)) → f (g a) + total f (tabulate g (suc a) n) ≡ f (g x)
+        at-head : Dec (a ≡ x) → (suc a ≤ x → x < suc a + n → total f (tabulate g (suc a) n) ≡ f (g x))
+            → f (g a) + total f (tabulate g (suc a) n) ≡ f (g x)
         at-head (yes e) later = omega (arith, total-none (suc a) n (λ i above. h i (λ same. omega arith)), ap (λ (i : ℕ). f (g i)) e)
         at-head (no other) later = omega (arith, h a other, later (omega arith) (omega arith))
 
@@ -103,6 +106,11 @@ past : (b : Bool) (x : Option Refusal) (r : Refusal) → (if b then x else some 
 past true x r e = (tt, e)
 past false x r e = absurd (not-refused r e)
 
+-- past the test that refuses a pair of one name, the names differ
+past-self : (b : Bool) (x : Option Refusal) → (if b then some SELF else x) ≡ none → T (if b then false else true) × (x ≡ none)
+past-self true x e = absurd (not-refused SELF e)
+past-self false x e = (tt, e)
+
 -- half as many channels as names
 ends-length : (l : List ℕ) (m : ℕ) → length l ≡ 2 * m → length (ends-of l) ≡ m
 ends-length [] m h = omega arith
@@ -120,14 +128,12 @@ channels-good : (w : Wiring) (l : List Ends) → proper-pairs (w .N) l ≡ none 
 channels-good w [] h = tt
 channels-good w (e ∷ rest) h =
     let both = within 1 (w .N) (e .writer) && within 1 (w .N) (e .reader) in
+    let differ = if eqb (e .writer) (e .reader) then false else true in
     let (named, after) = past both _ NAME h in
-    let (differ, later) = apart (eqb (e .writer) (e .reader)) after in
-    and-means (valid-channel w (new-channel e)) _ .1
-    (good-channel-tested w (new-channel e) (record { ends = and-means both (if eqb (e .writer) (e .reader) then false else true) .1 (named, differ); word = tt; transfers = omega arith }), channels-good w rest later)
-  where
-    apart : (b : Bool) → (if b then some SELF else proper-pairs (w .N) rest) ≡ none → T (if b then false else true) × (proper-pairs (w .N) rest ≡ none)
-    apart true after = absurd (not-refused SELF after)
-    apart false after = (tt, after)
+    let (apart, later) = past-self (eqb (e .writer) (e .reader)) (proper-pairs (w .N) rest) after in
+    let g : GoodChannel w (new-channel e) = record { ends = and-means both differ .1 (named, apart); word = tt; transfers = omega arith } in
+    let its-own = good-channel-tested w (new-channel e) g in
+    and-means (valid-channel w (new-channel e)) _ .1 (its-own, channels-good w rest later)
 
 -- The state
 
@@ -136,6 +142,7 @@ module _ (k n : ℕ) (pairs : List ℕ) where
   set-up-wiring : Wiring
   set-up-wiring = record { K = k; N = n; ends = ends-of pairs }
 
+  -- is the wiring of the state
   set-up-wired : wiring (set-up-state k n pairs) ≡ set-up-wiring
   unfolding set-up-wiring
   set-up-wired = simp (length-tabulate, ends-kept)
@@ -145,29 +152,33 @@ module _ (k n : ℕ) (pairs : List ℕ) where
   set-up-process zero is = absurd (omega (arith, simp tests at is))
   set-up-process (suc i) is = getD-tabulate new-process 1 n i no-process (omega (arith, simp tests at is))
 
-  -- it runs nowhere, and is queued once
+  -- it runs nowhere
   set-up-cores : (p : ℕ) → on-cores (set-up-state k n pairs) p ≡ 0
   unfolding on-cores
   set-up-cores p = total-none (new-core k n) _ 0 k (λ i low. refl)
 
+  -- it is queued once
   set-up-queues : (p : ℕ) → 0 < k → T (within 1 n p) → in-queues (set-up-state k n pairs) p ≡ 1
   unfolding in-queues
   set-up-queues p some-core is =
       let its-core = (p - 1) % k in
       let (low, high) = simp tests at is in
-      let once : times p (from 1 n) ≡ bit (eqb p p) = total-one (λ i. i) (λ (x : ℕ). bit (eqb x p)) p (λ i other. counts-not i p (λ e. other (sym e))) 1 n low (omega arith) in
-      let alone =
-      total-one (new-core k n) (queued-in p) its-core (λ j other. omega (arith, batches-other k j p (λ e. other (sym e)) (from 1 n))) 0 k (omega arith)
-      (omega (arith, mod-lt (p - 1) some-core)) in
-      omega (arith, alone, batches-own k its-core p refl (from 1 n), once, counts-once p)
+      let once = total-one (λ i. i) (λ (x : ℕ). bit (eqb x p)) p (λ i other. counts-not i p (λ e. other (sym e))) 1 n low (omega arith) in
+      let elsewhere : (j : ℕ) → (j ≡ its-core → ⊥) → queued-in p (new-core k n j) ≡ 0 =
+      λ j other. omega (arith, batches-other k j p (λ e. other (sym e)) (from 1 n)) in
+      let there = total-one (new-core k n) (queued-in p) its-core elsewhere 0 k (omega arith) (omega (arith, mod-lt (p - 1) some-core)) in
+      omega (arith, there, batches-own k its-core p refl (from 1 n), once, counts-once p)
 
+  -- so all is valid
   set-up-good : T (sizes k n (length (ends-of pairs))) → proper-pairs n (ends-of pairs) ≡ none → Valid set-up-wiring (set-up-state k n pairs)
   unfolding set-up-wiring
   set-up-good sized proper =
       record {
         wired = set-up-wired;
         sized = sized;
-        cores = tabulate-all (valid-core set-up-wiring) (new-core k n) 0 k (λ j low high. good-core-tested set-up-wiring (new-core k n j) (core-good j));
+        cores =
+            tabulate-all (valid-core set-up-wiring) (new-core k n) 0 k
+            (λ j low high. good-core-tested set-up-wiring (new-core k n j) (core-good j));
         others =
             λ p is _.
             rw (set-up-process p is, set-up-cores p, set-up-queues p (omega (arith, simp tests at sized)) is)
@@ -175,6 +186,7 @@ module _ (k n : ℕ) (pairs : List ℕ) where
         channels = channels-good set-up-wiring (ends-of pairs) proper;
       }
     where
+      -- each core is as it should be
       core-good : (j : ℕ) → GoodCore set-up-wiring (new-core k n j)
       core-good j =
           record {
@@ -187,6 +199,7 @@ module _ (k n : ℕ) (pairs : List ℕ) where
                 (tabulate-all (is-process set-up-wiring) (λ i. i) 1 n (λ p low high. simp tests (low, omega arith)));
           }
 
+-- An accepted set-up builds a valid state.
 pub set-up-valid : (k n m : ℕ) (pairs : List ℕ) (size : ℕ) → set-up-refusal k n m pairs size ≡ none → T (valid (set-up-state k n pairs))
 set-up-valid k n m pairs size h =
     let (sized, after-size) = past (sizes k n m) _ SIZE h in

@@ -1,4 +1,4 @@
--- Every accepted call on a valid state leaves it valid.
+-- The calls, one for all: steps and requests.
 use Prim.Native.Nat.{ℕ, _<_}
 use mathlib.Core.Path.{_≡_}
 use lib.Dec.{T}
@@ -20,6 +20,7 @@ ask-keeps : (s : State) (k : ℕ) (ask : Ask) → T (sends-word ask) → T (vali
 ask-keeps s k the-step small v on = step-keeps k (reflected s v) on
 ask-keeps s k (a-request r) small v on = request-keeps k (reflected s v) on r small
 
+-- Every accepted call on a valid state leaves it valid.
 pub stays-valid : (s : State) (k : ℕ) (ask : Ask) (a : Answer) (s′ : State) → T (sends-word ask) → T (valid s) → k < length (s .cores)
     → run (rule-of (wiring s) ask k) s ≡ accepted a s′ → T (valid s′)
 stays-valid s k ask a s′ small v on e = tested (wiring s) s′ (rw e at (ask-keeps s k ask small v on))
