@@ -1,0 +1,13 @@
+pub mod Tests
+pub mod Sums
+pub mod Reflect
+pub mod Changes
+pub mod Places
+pub mod Channels
+pub mod Rules
+pub mod Steps
+pub mod Choice
+pub mod Scheduler
+pub mod Requests
+pub mod StaysValid
+pub mod SetUp

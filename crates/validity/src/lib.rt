@@ -1,0 +1,1 @@
+// The crate holds proofs only: see proofs/. No function stands here.
