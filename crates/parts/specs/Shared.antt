@@ -1,7 +1,8 @@
 -- What the shared parts of the steps write into the table.
 use Prim.Native.Nat.{ℕ}
 use mathlib.Core.List.{List}
-use lib.ListN.{set}
+use lib.ListN.{set, replicate}
+use lib.Seq.{sets}
 use Rattle.rules.specs.Packing.{core-at, process-at}
 
 -- core k runs nothing and has a task, of process q
@@ -14,9 +15,7 @@ asleep-table t cores k p task q = task-table (set t (process-at cores p 0) 3) k 
 
 -- process p has nothing in hand: the 14 words of its progress are 0
 abbrev pub cleared : List ℕ → ℕ → ℕ → List ℕ
-cleared t cores p =
-    let w : ℕ → List ℕ → List ℕ = λ f u. set u (process-at cores p f) 0 in
-    w 19 (w 18 (w 17 (w 16 (w 15 (w 14 (w 13 (w 12 (w 11 (w 10 (w 9 (w 8 (w 7 (w 6 t)))))))))))))
+cleared t cores p = sets t (process-at cores p 6) (replicate 14 0)
 
 -- process p has an outcome due, of this number and of channel c
 abbrev pub due-table : List ℕ → ℕ → ℕ → ℕ → ℕ → List ℕ

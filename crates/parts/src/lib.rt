@@ -51,21 +51,7 @@ pub fn clear_progress(t: &mut [u32], cores: usize, p: u32)
     ensures { λ r. ⌜ now (t .exit) ≡ cleared (now (t .entry)) cores p ⌝ }
 {
     let i = p as usize;
-    let at = 8 + 16 * cores + 24 * (i - 1);
-    t[at + 6] = 0;
-    t[at + 7] = 0;
-    t[at + 8] = 0;
-    t[at + 9] = 0;
-    t[at + 10] = 0;
-    t[at + 11] = 0;
-    t[at + 12] = 0;
-    t[at + 13] = 0;
-    t[at + 14] = 0;
-    t[at + 15] = 0;
-    t[at + 16] = 0;
-    t[at + 17] = 0;
-    t[at + 18] = 0;
-    t[at + 19] = 0;
+    table::zero_words(t, 8 + 16 * cores + 24 * (i - 1) + 6, 14);
 }
 
 // Process p has an outcome due, of this number and this channel.

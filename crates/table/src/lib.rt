@@ -1,7 +1,8 @@
 // The words of a lent table at fixed offsets (docs/PACKING.md): core k, process p and channel c, each with the number f of its word.
 ghost use mathlib.Core.Path.{_≡_};
 ghost use Prim.Native.Nat.{_+_, _*_, _-_, _≤_, _<_};
-ghost use lib.ListN.{length, getD, set};
+ghost use lib.ListN.{length, getD, set, replicate};
+ghost use lib.Seq.{sets};
 ghost use Rattle.rules.specs.Packing.{core-at, process-at, channel-at};
 
 // A word as a place in the table.
@@ -55,4 +56,16 @@ pub fn set_channel_word(t: &mut [u32], cores: usize, processes: usize, c: u32, f
 {
     let i = c as usize;
     t[8 + 16 * cores + 24 * processes + 4 * (i - 1) + f] = v;
+}
+
+// The n words from `at` on become 0.
+pub fn zero_words(t: &mut [u32], at: usize, n: usize)
+    requires { ⌜ at + n ≤ length (now t) ⌝ }
+    ensures { λ r. ⌜ now (t .exit) ≡ sets (now (t .entry)) at (replicate n 0) ⌝ }
+{
+    let mut i = 0;
+    while i < n {
+        t[at + i] = 0;
+        i += 1;
+    }
 }
