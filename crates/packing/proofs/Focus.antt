@@ -31,7 +31,7 @@ same-test a b c d there back = cases (eqb a b) refl
     cases true e = sym (eq-eqb c d (there (eqb-true a b e)))
     cases false e = sym (ne-eqb c d (λ q. eqb-false a b e (back q)))
 
--- the two parts of a conjunction of tests
+-- a conjunction of tests and its two parts
 pub both-left : (a b : Bool) → T (a && b) → T a
 both-left true b h = tt
 both-left false b h = h
@@ -39,6 +39,10 @@ both-left false b h = h
 pub both-right : (a b : Bool) → T (a && b) → T b
 both-right true b h = h
 both-right false b h = absurd h
+
+pub both : (a b : Bool) → T a → T b → T (a && b)
+both true b h g = g
+both false b h g = h
 
 -- Several writes
 

@@ -5,3 +5,5 @@ pub mod Focus
 pub mod QueueLists
 pub mod Links
 pub mod WriteLaws
+pub mod Queued
+pub mod Push

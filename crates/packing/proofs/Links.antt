@@ -9,7 +9,7 @@ use lib.Dec.{T, eqb, ltb, leb, leb→le, ltb→lt}
 use lib.ListN.{length, getD, set, length-set, length-append}
 use lib.Seq.{getD-set-same, getD-set-other}
 use borrow.Author.Tests.{eqb-true, eqb-false, ltb-true, ltb-false}
-use Rattle.rules.specs.Lists.{if_then_else_, total, times, last, follows}
+use Rattle.rules.specs.Lists.{if_then_else_, total, bit, times, first, last, follows}
 use Rattle.rules.specs.State.{Core, queues-of, State}
 use Rattle.rules.specs.Items.{core-of, process-of, no-core, put, core}
 use Rattle.rules.specs.SetUp.{room}
@@ -22,16 +22,17 @@ use Rattle.rules.specs.Packing.{
   core-words,
   process-words,
   channel-words,
-  progress-words,
+  work-words,
   pack,
   core-at,
   process-at,
   channel-at,
 }
 use Rattle.rules.specs.Soundness.{in-queues}
+use Rattle.packing.specs.Queues.{with-queues}
 use Rattle.packing.proofs.Regions.{Dims, Words, Holds, Same, holds-set, written}
 use Rattle.packing.proofs.Blocks.{dims, words-of, pack-holds, length-progress-words, first-part, second-part}
-use Rattle.packing.proofs.ReadLaws.{own-words, link-words, process-split, core-list, core-listed}
+use Rattle.packing.proofs.ReadLaws.{own-words, link-words, process-split, listed, core-list, core-listed}
 use Rattle.packing.proofs.Focus.{
   by-test,
   same-test,
@@ -49,7 +50,7 @@ use Rattle.packing.proofs.Focus.{
   packed,
   same-header,
 }
-use Rattle.packing.proofs.QueueLists.{total-set, total-none, total-alone, follows-none, if-head-none, times-heads}
+use Rattle.packing.proofs.QueueLists.{total-set, total-alone, no-next, no-head, no-next-head}
 
 -- Links as words 20 to 23 of processes
 
@@ -200,6 +201,14 @@ held-last s k c l L t inside h e linked =
         let q : 20 + (f - 20) ≡ f = omega arith in
         (rw q at (linked-word (length (s .processes)) L s′ linked p (f - 20) low high (omega arith))) ∙ sym (link-word s′ p f from)
 
+-- the words of a core with other queues
+pub queue-entries : (c : Core) (active : List ℕ) (batches : List (List ℕ)) {a b n h g : ℕ}
+    → a ≡ first active → b ≡ last active → n ≡ length active → h ≡ first (heads batches) → g ≡ last (heads batches)
+    → listed (work-words (c .work)) 3 ++ (a ∷ b ∷ n ∷ c .dispatch ∷ bit (c .mark) ∷ h ∷ g ∷ 0 ∷ 0 ∷ 0 ∷ 0 ∷ 0 ∷ 0 ∷ [])
+    ≡ core-list (with-queues active batches c)
+queue-entries c active batches e₁ e₂ e₃ e₄ e₅ =
+    λ i. listed (work-words (c .work)) 3 ++ (e₁ i ∷ e₂ i ∷ e₃ i ∷ c .dispatch ∷ bit (c .mark) ∷ e₄ i ∷ e₅ i ∷ 0 ∷ 0 ∷ 0 ∷ 0 ∷ 0 ∷ 0 ∷ [])
+
 -- A core's share in the links
 
 abbrev pub next-in : ℕ → Core → ℕ
@@ -215,23 +224,38 @@ next-head-in p c = follows p (heads (c .run-queue))
 abbrev pub times-in : ℕ → Core → ℕ
 times-in p c = total (times p) (queues-of c)
 
--- where p stands in no queue, the core has no share
-pub next-none : (p : ℕ) (c : Core) → times-in p c ≡ 0 → next-in p c ≡ 0
-next-none p c h = total-none (times p) (follows p) (queues-of c) (follows-none p) h
-
-pub head-none : (f : List ℕ → ℕ) (p : ℕ) → 1 ≤ p → (c : Core) → times-in p c ≡ 0 → head-in f p c ≡ 0
-head-none f p low c h = total-none (times p) (if-head f p) (c .run-queue) (λ l e. if-head-none f p l low e) (omega arith)
-
-pub next-head-none : (p : ℕ) → 1 ≤ p → (c : Core) → times-in p c ≡ 0 → next-head-in p c ≡ 0
-next-head-none p low c h = follows-none p (heads (c .run-queue)) (omega (arith, times-heads p (c .run-queue) low))
-
 module _ (s : State) (k : ℕ) (c : Core) (inside : k < length (s .cores)) where
-  -- a link keeps its value where the core's share keeps its
-  pub share-kept : (share : Core → ℕ) → share (core-of s k) ≡ share c → total share (s .cores) ≡ total share (set (s .cores) k c)
+  -- a sum over the cores keeps its value where the core's share keeps its
+  share-kept : (share : Core → ℕ) → share (core-of s k) ≡ share c → total share (s .cores) ≡ total share (set (s .cores) k c)
   share-kept share e = omega (arith, total-set share (s .cores) k c no-core inside, e)
 
-  -- a link of a process that stands in that core's queues is that core's share
-  pub share-alone : (p : ℕ) (share : Core → ℕ) → ((c : Core) → times-in p c ≡ 0 → share c ≡ 0) → in-queues s p ≤ 1 → 1 ≤ times-in p (core-of s k)
-      → total share (set (s .cores) k c) ≡ share c
-  unfolding in-queues
-  share-alone p share none once here = total-alone (times-in p) share (s .cores) k c no-core none inside once here
+  -- so does each link
+  pub next-kept : (p : ℕ) → next-in p (core-of s k) ≡ next-in p c → next-link s p ≡ next-link (put core k c s) p
+  unfolding next-link
+  next-kept p e = share-kept (next-in p) e
+
+  pub head-kept : (f : List ℕ → ℕ) (p : ℕ) → head-in f p (core-of s k) ≡ head-in f p c → head-link f s p ≡ head-link f (put core k c s) p
+  unfolding head-link
+  head-kept f p e = share-kept (head-in f p) e
+
+  pub next-head-kept : (p : ℕ) → next-head-in p (core-of s k) ≡ next-head-in p c → batch-link s p ≡ batch-link (put core k c s) p
+  unfolding batch-link
+  next-head-kept p e = share-kept (next-head-in p) e
+
+  -- a link of a process that stands in the core's queues, and nowhere twice, is the core's share
+  module _ (p : ℕ) (low : 1 ≤ p) (once : in-queues s p ≤ 1) (here : 1 ≤ times-in p (core-of s k)) where
+    share-alone : (share : Core → ℕ) → ((x : Core) → times-in p x ≡ 0 → share x ≡ 0) → total share (set (s .cores) k c) ≡ share c
+    unfolding in-queues
+    share-alone share none = total-alone (times-in p) share (s .cores) k c no-core none inside once here
+
+    pub next-alone : next-link (put core k c s) p ≡ next-in p c
+    unfolding next-link
+    next-alone = share-alone (next-in p) (λ x h. no-next p (queues-of x) h)
+
+    pub head-alone : (f : List ℕ → ℕ) → head-link f (put core k c s) p ≡ head-in f p c
+    unfolding head-link
+    head-alone f = share-alone (head-in f p) (λ x h. no-head f p (x .run-queue) low (omega arith))
+
+    pub next-head-alone : batch-link (put core k c s) p ≡ next-head-in p c
+    unfolding batch-link
+    next-head-alone = share-alone (next-head-in p) (λ x h. no-next-head p (x .run-queue) low (omega arith))

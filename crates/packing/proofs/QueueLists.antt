@@ -30,19 +30,20 @@ module _ {A : Type 0} where
   total-none f g [] none h = refl
   total-none f g (x ∷ l) none h = omega (arith, none x (omega arith), total-none f g l none (omega arith))
 
+  -- a part of a sum is no more than the sum
+  pub total-part : (f : A → ℕ) (l : List A) (k : ℕ) (d : A) → k < length l → f (getD l k d) ≤ total f l
+  total-part f [] k d h = absurd (omega arith)
+  total-part f (x ∷ l) zero d h = omega arith
+  total-part f (x ∷ l) (suc k) d h = omega (arith, total-part f l k d (omega arith))
+
   -- of a sum of at most 1, whose k-th part is that 1, all other parts are 0
   pub total-alone : (f g : A → ℕ) (l : List A) (k : ℕ) (a d : A) → ((x : A) → f x ≡ 0 → g x ≡ 0) → k < length l
       → total f l ≤ 1 → 1 ≤ f (getD l k d) → total g (set l k a) ≡ g a
   total-alone f g [] k a d none h once here = absurd (omega arith)
   total-alone f g (x ∷ l) zero a d none h once here = omega (arith, total-none f g l none (omega arith))
   total-alone f g (x ∷ l) (suc k) a d none h once here =
-      let part : f (getD l k d) ≤ total f l = part-of l k (omega arith) in
+      let part : f (getD l k d) ≤ total f l = total-part f l k d (omega arith) in
       omega (arith, none x (omega arith), total-alone f g l k a d none (omega arith) (omega arith) here)
-    where
-      part-of : (l : List A) (k : ℕ) → k < length l → f (getD l k d) ≤ total f l
-      part-of [] k h = absurd (omega arith)
-      part-of (x ∷ l) zero h = omega arith
-      part-of (x ∷ l) (suc k) h = omega (arith, part-of l k (omega arith))
 
 -- How often a number stands in a list
 
@@ -82,6 +83,11 @@ follows-last q x (y ∷ l) once =
     let before : x ≡ last (y ∷ l) → ⊥ = λ e. omega (arith, ap bit (eq-eqb x (last (y ∷ l)) e), times-last y l) in
     rw (ne-eqb x (last (y ∷ l)) before) (follows-last q y l (omega arith))
 
+pub last-more : (l : List ℕ) (q : ℕ) → last (l ++ (q ∷ [])) ≡ q
+last-more [] q = refl
+last-more (x ∷ []) q = refl
+last-more (x ∷ (y ∷ l)) q = last-more (y ∷ l) q
+
 -- Heads
 
 -- a head keeps nothing of a batch where it doesn't stand
@@ -94,3 +100,13 @@ pub times-heads : (p : ℕ) (batches : List (List ℕ)) → 1 ≤ p → times p 
 times-heads p [] low = omega arith
 times-heads p ([] ∷ batches) low = rw (ne-eqb 0 p (λ e. omega arith)) (omega (arith, times-heads p batches low))
 times-heads p ((x ∷ l) ∷ batches) low = omega (arith, times-heads p batches low)
+
+-- a process that stands in no batch has no link there
+pub no-next : (p : ℕ) (batches : List (List ℕ)) → total (times p) batches ≡ 0 → total (follows p) batches ≡ 0
+no-next p batches h = total-none (times p) (follows p) batches (follows-none p) h
+
+pub no-head : (f : List ℕ → ℕ) (p : ℕ) (batches : List (List ℕ)) → 1 ≤ p → total (times p) batches ≡ 0 → total (if-head f p) batches ≡ 0
+no-head f p batches low h = total-none (times p) (if-head f p) batches (λ l e. if-head-none f p l low e) h
+
+pub no-next-head : (p : ℕ) (batches : List (List ℕ)) → 1 ≤ p → total (times p) batches ≡ 0 → follows p (heads batches) ≡ 0
+no-next-head p batches low h = follows-none p (heads batches) (omega (arith, times-heads p batches low))
