@@ -7,3 +7,4 @@ pub mod Links
 pub mod WriteLaws
 pub mod Queued
 pub mod Push
+pub mod Take

@@ -224,6 +224,14 @@ next-head-in p c = follows p (heads (c .run-queue))
 abbrev pub times-in : ℕ → Core → ℕ
 times-in p c = total (times p) (queues-of c)
 
+-- p stands in the queues of core k, once, and nowhere else
+pub record Stands (s : State) (k p : ℕ) : Type 0 where
+  pub low : 1 ≤ p
+  pub high : p ≤ length (s .processes)
+  pub once : in-queues s p ≤ 1
+  pub here : 1 ≤ times-in p (core-of s k)
+  pub at-most : times-in p (core-of s k) ≤ 1
+
 module _ (s : State) (k : ℕ) (c : Core) (inside : k < length (s .cores)) where
   -- a sum over the cores keeps its value where the core's share keeps its
   share-kept : (share : Core → ℕ) → share (core-of s k) ≡ share c → total share (s .cores) ≡ total share (set (s .cores) k c)
@@ -242,11 +250,11 @@ module _ (s : State) (k : ℕ) (c : Core) (inside : k < length (s .cores)) where
   unfolding batch-link
   next-head-kept p e = share-kept (next-head-in p) e
 
-  -- a link of a process that stands in the core's queues, and nowhere twice, is the core's share
-  module _ (p : ℕ) (low : 1 ≤ p) (once : in-queues s p ≤ 1) (here : 1 ≤ times-in p (core-of s k)) where
+  -- a link of a process that stands in the core's queues is the core's share
+  module _ (p : ℕ) (stands : Stands s k p) where
     share-alone : (share : Core → ℕ) → ((x : Core) → times-in p x ≡ 0 → share x ≡ 0) → total share (set (s .cores) k c) ≡ share c
     unfolding in-queues
-    share-alone share none = total-alone (times-in p) share (s .cores) k c no-core none inside once here
+    share-alone share none = total-alone (times-in p) share (s .cores) k c no-core none inside (stands .once) (stands .here)
 
     pub next-alone : next-link (put core k c s) p ≡ next-in p c
     unfolding next-link
@@ -254,8 +262,8 @@ module _ (s : State) (k : ℕ) (c : Core) (inside : k < length (s .cores)) where
 
     pub head-alone : (f : List ℕ → ℕ) → head-link f (put core k c s) p ≡ head-in f p c
     unfolding head-link
-    head-alone f = share-alone (head-in f p) (λ x h. no-head f p (x .run-queue) low (omega arith))
+    head-alone f = share-alone (head-in f p) (λ x h. no-head f p (x .run-queue) (stands .low) (omega arith))
 
     pub next-head-alone : batch-link (put core k c s) p ≡ next-head-in p c
     unfolding batch-link
-    next-head-alone = share-alone (next-head-in p) (λ x h. no-next-head p (x .run-queue) low (omega arith))
+    next-head-alone = share-alone (next-head-in p) (λ x h. no-next-head p (x .run-queue) (stands .low) (omega arith))

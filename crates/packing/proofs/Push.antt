@@ -21,14 +21,14 @@ use Rattle.packing.proofs.Links.{
   held-core,
   held-link,
   held-last,
-  times-in,
+  Stands,
   next-in,
   next-kept,
   head-kept,
   next-head-kept,
   next-alone,
 }
-use Rattle.packing.proofs.Queued.{Among, last-among, active-among, core-once}
+use Rattle.packing.proofs.Queued.{last-stands}
 
 pub push-law : (s : State) (k q : ℕ) → k < length (s .cores) → Queued s
     → push-table (pack s) (length (s .cores)) k q
@@ -59,17 +59,16 @@ push-law s k q inside queued =
     cases (x ∷ l) e =
         let c′ : Core = with-queues (x ∷ l ++ (q ∷ [])) (c .run-queue) c in
         let a : ℕ = last (x ∷ l) in
-        let among : Among (length (s .processes)) a = last-among _ x l (rw e at (active-among s k inside queued)) in
+        let stands : Stands s k a = last-stands s k inside queued x l e in
         let here : 1 ≤ times a (c .active) = rw e (times-last x l) in
-        let once : times a (c .active) + total (times a) r ≤ 1 = core-once s k inside queued a among in
-        let at-most : times a (c .active) ≤ 1 = omega arith in
-        let linked : next-in a c′ ≡ q = omega (arith, follows-last q x l (rw e at at-most), no-next a r (omega arith)) in
-        rw (ne-eqb a 0 (λ z. omega arith))
+        let once : times a (c .active) ≤ 1 = omega arith in
+        let linked : next-in a c′ ≡ q = omega (arith, follows-last q x l (rw e at once), no-next a r (omega arith)) in
+        rw (ne-eqb a 0 (λ z. omega (arith, stands .low)))
         (held-last s k c′ _ _ _ inside
-        (held-core s k inside 5 (length (x ∷ l) + 1) tt (held-core s k inside 4 q tt (held-link s k inside 20 a q tt (among .0) (among .1) (held-first s k inside))))
+        (held-core s k inside 5 (length (x ∷ l) + 1) tt (held-core s k inside 4 q tt (held-link s k inside 20 a q tt (stands .low) (stands .high) (held-first s k inside))))
         (queue-entries c (x ∷ l ++ (q ∷ [])) r (ap first e) (sym (last-more (x ∷ l) q)) (sym (length-append (x ∷ l) (q ∷ []))) refl refl)
         (record {
-          next = λ p low high. in-block a p q _ (λ p. next-link (put core k c′ s) p) (sym (next-alone s k c′ inside a (among .0) (queued .once a (among .0) (among .1)) (omega arith) ∙ linked))
+          next = λ p low high. in-block a p q _ (λ p. next-link (put core k c′ s) p) (sym (next-alone s k c′ inside a stands ∙ linked))
             (λ ne. next-kept s k c′ inside p (ap (λ n. n + total (follows p) r) (ap (follows p) e ∙ sym (follows-more p q (x ∷ l) ne))));
           batch-last = λ p low high. head-kept s k c′ inside last p refl;
           batch-size = λ p low high. head-kept s k c′ inside length p refl;

@@ -50,6 +50,9 @@ module _ {A : Type 0} where
 pub times-append : (p : ℕ) (l m : List ℕ) → times p (l ++ m) ≡ times p l + times p m
 times-append p l m = total-append (λ x. bit (eqb x p)) l m
 
+pub times-again : (p : ℕ) (l : List ℕ) → times p (p ∷ l) ≡ 1 + times p l
+times-again p l = rw (eq-eqb p p refl)
+
 -- the first of a list stands there, and so does the last
 pub times-first : (p x : ℕ) (l : List ℕ) → eqb x p ≡ true → 1 ≤ times p (x ∷ l)
 times-first p x l e = rw e (omega arith)
@@ -69,6 +72,13 @@ follows-none p (x ∷ l) h =
 -- nor one that is alone
 pub follows-single : (p q : ℕ) → follows p (q ∷ []) ≡ 0
 follows-single p q = by-test (eqb q p) (λ e. refl) (λ e. refl)
+
+-- behind all but the first nothing changes if the first is taken off
+pub follows-rest : (p x : ℕ) (l : List ℕ) → (p ≡ x → ⊥) → follows p (x ∷ l) ≡ follows p l
+follows-rest p x l ne = rw (ne-eqb x p (λ e. ne (sym e)))
+
+pub follows-first : (p : ℕ) (l : List ℕ) → follows p (p ∷ l) ≡ first l
+follows-first p l = rw (eq-eqb p p refl)
 
 -- behind all but the last nothing changes if one more is put at the end
 pub follows-more : (p q : ℕ) (l : List ℕ) → (p ≡ last l → ⊥) → follows p (l ++ (q ∷ [])) ≡ follows p l

@@ -5,17 +5,18 @@ use mathlib.Core.Bool.{Bool, true, false, _&&_}
 use mathlib.Core.List.{List, [], _∷_, _++_}
 use native.Mathlib.Omega.{arith}
 use native.Mathlib.Nat.{le-trans}
-use lib.Dec.{T, leb, leb→le}
+use lib.Dec.{T, eqb, leb, leb→le}
 use lib.ListN.{length}
-use Rattle.rules.specs.Lists.{within, all, first, last}
+use borrow.Author.Tests.{eq-eqb, ne-eqb}
+use Rattle.rules.specs.Lists.{if_then_else_, within, all, times, first, last}
 use Rattle.rules.specs.State.{State}
 use Rattle.rules.specs.Items.{core-of, no-core}
 use Rattle.rules.specs.Packing.{heads}
 use Rattle.rules.specs.Soundness.{not-empty, in-queues}
 use Rattle.packing.specs.Queues.{Queued}
 use Rattle.packing.proofs.Focus.{both, both-left, both-right}
-use Rattle.packing.proofs.QueueLists.{total-part}
-use Rattle.packing.proofs.Links.{times-in}
+use Rattle.packing.proofs.QueueLists.{total-part, times-first, times-last}
+use Rattle.packing.proofs.Links.{times-in, Stands}
 
 -- one of 1 to n
 abbrev pub Among : ℕ → ℕ → Type 0
@@ -31,6 +32,11 @@ first-among n x l h = within-among n x (both-left (within 1 n x) (all (within 1 
 pub last-among : (n x : ℕ) (l : List ℕ) → T (all (within 1 n) (x ∷ l)) → Among n (last (x ∷ l))
 last-among n x [] h = first-among n x [] h
 last-among n x (y ∷ l) h = last-among n y l (both-right (within 1 n x) (all (within 1 n) (y ∷ l)) h)
+
+-- what is last when the first is taken off: 0 where nothing is left, which its first shows
+pub last-rest : (n x : ℕ) (l : List ℕ) → T (all (within 1 n) l) → (if eqb (first l) 0 then 0 else last (x ∷ l)) ≡ last l
+last-rest n x [] h = refl
+last-rest n x (y ∷ l) h = rw (ne-eqb y 0 (λ e. omega (arith, first-among n y l h .0)))
 
 -- so are the heads of batches that are not empty
 heads-among : (n : ℕ) (batches : List (List ℕ)) → T (all (all (within 1 n)) batches) → T (all not-empty batches) → T (all (within 1 n) (heads batches))
@@ -50,7 +56,26 @@ module _ (s : State) (k : ℕ) (inside : k < length (s .cores)) (queued : Queued
       heads-among (length (s .processes)) (core-of s k .run-queue)
       (both-right (all (within 1 (length (s .processes))) (core-of s k .active)) _ (queued .members k inside)) (queued .batches k inside)
 
-  -- no process stands twice in the core's queues
-  pub core-once : (p : ℕ) → Among (length (s .processes)) p → times-in p (core-of s k) ≤ 1
+  -- a process that stands in the core's queues stands there once
+  pub stands-once : (p : ℕ) → Among (length (s .processes)) p → 1 ≤ times-in p (core-of s k) → Stands s k p
   unfolding in-queues
-  core-once p among = le-trans (total-part (times-in p) (s .cores) k no-core inside) (queued .once p (among .0) (among .1))
+  stands-once p among here =
+      let once : in-queues s p ≤ 1 = queued .once p (among .0) (among .1) in
+      record {
+        low = among .0;
+        high = among .1;
+        once = once;
+        here = here;
+        at-most = le-trans (total-part (times-in p) (s .cores) k no-core inside) once;
+      }
+
+  -- so does the first of the active queue, and the last
+  pub first-stands : (p : ℕ) (rest : List ℕ) → core-of s k .active ≡ p ∷ rest → Stands s k p
+  first-stands p rest e =
+      let here : 1 ≤ times p (core-of s k .active) = rw e (times-first p p rest (eq-eqb p p refl)) in
+      stands-once p (first-among _ p rest (rw e at active-among)) (omega arith)
+
+  pub last-stands : (p : ℕ) (rest : List ℕ) → core-of s k .active ≡ p ∷ rest → Stands s k (last (p ∷ rest))
+  last-stands p rest e =
+      let here : 1 ≤ times (last (p ∷ rest)) (core-of s k .active) = rw e (times-last p rest) in
+      stands-once (last (p ∷ rest)) (last-among _ p rest (rw e at active-among)) (omega arith)
