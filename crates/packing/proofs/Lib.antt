@@ -8,3 +8,4 @@ pub mod WriteLaws
 pub mod Queued
 pub mod Push
 pub mod Take
+pub mod Store

@@ -7,7 +7,7 @@ use mathlib.Core.List.{List, [], _∷_, _++_}
 use native.Mathlib.Omega.{arith}
 use lib.Dec.{T, eqb, ltb, leb, leb→le, ltb→lt}
 use lib.ListN.{length, getD, set, length-set, length-append}
-use lib.Seq.{getD-set-same, getD-set-other}
+use lib.Seq.{getD-set-same, getD-set-other, set-getD}
 use borrow.Author.Tests.{eqb-true, eqb-false, ltb-true, ltb-false}
 use Rattle.rules.specs.Lists.{if_then_else_, total, bit, times, first, last, follows}
 use Rattle.rules.specs.State.{Core, queues-of, State}
@@ -29,7 +29,7 @@ use Rattle.rules.specs.Packing.{
   channel-at,
 }
 use Rattle.rules.specs.Soundness.{in-queues}
-use Rattle.packing.specs.Queues.{with-queues}
+use Rattle.packing.specs.Queues.{link-end, with-queues}
 use Rattle.packing.proofs.Regions.{Dims, Words, Holds, Same, holds-set, written}
 use Rattle.packing.proofs.Blocks.{dims, words-of, pack-holds, length-progress-words, first-part, second-part}
 use Rattle.packing.proofs.ReadLaws.{own-words, link-words, process-split, listed, core-list, core-listed}
@@ -152,6 +152,35 @@ module _ (s : State) (k : ℕ) (inside : k < length (s .cores)) where
             link-set (dims s) (focus cores k l (words-of s)) L p f v t low high (leb→le 20 f (both-left (leb 20 f) (ltb f 24) b)) (ltb→lt f 24 (both-right (leb 20 f) (ltb f 24) b)) (h .held);
         }
 
+  -- there is no process 0 whose link could be written
+  held-nobody : (f v : ℕ) {l : List ℕ} {L : ℕ → ℕ → ℕ} {t : List ℕ} → Held s k l L t → Held s k l (write-link f 0 v L) t
+  held-nobody f v {l} {L} {t} h =
+      record {
+        size = h .size;
+        held =
+          holds-same (dims s) (with-links L (focus cores k l (words-of s))) _ t
+          (record {
+            header = λ g b. refl;
+            core = λ i g b b′. refl;
+            process = λ i g low b b′.
+              ap (λ n. if ltb g 20 then words-of s .process i g else n) (sym (by-test (eqb g f) (λ e. apart i 0 v (L g i) (λ z. omega arith)) (λ e. refl)));
+            channel = λ i g low b b′. refl;
+          })
+          (h .held);
+      }
+
+  -- process p is linked behind the last one, or first where there is none
+  pub held-end : (f g b p : ℕ) {l : List ℕ} {L : ℕ → ℕ → ℕ} {t : List ℕ} → T (ltb f 16) → T (leb 20 g && ltb g 24) → b ≤ length (s .processes)
+      → Held s k l L t
+      → Held s k (set l f (if eqb b 0 then p else getD l f 0)) (write-link g b p L) (link-end f g b p t (length (s .cores)) k)
+  held-end f g b p {l} {L} {t} hf hg high h = cases (eqb b 0) refl
+    where
+      cases : (x : Bool) → eqb b 0 ≡ x
+          → Held s k (set l f (if x then p else getD l f 0)) (write-link g b p L)
+            (if x then set t (core-at k f) p else set t (process-at (length (s .cores)) b g) p)
+      cases true e = rw (eqb-true b 0 e) (held-core f p hf (held-nobody g p h))
+      cases false e = rw (set-getD l f 0) (held-link g b p hg (omega (arith, eqb-false b 0 e)) high h)
+
   -- several words of the core are written
   pub held-writes : (at : ℕ → ℕ) (ws : List (ℕ × ℕ)) {l : List ℕ} {L : ℕ → ℕ → ℕ} {t : List ℕ} → T (below 16 at ws)
       → Held s k l L t → Held s k (writes ws at l) L (writes ws (λ f. core-at k (at f)) t)
@@ -181,7 +210,7 @@ held-last s k c l L t inside h e linked =
     packed s s′ _ t same-dims (h .held)
     (record {
       header = λ f b. ap (λ (l : List ℕ). getD l f 0) (same-header s s′ same-dims);
-      core = λ i f b b′. in-block k i _ _ (λ x. getD (core-words (core-of s′ x)) f 0) (ap (λ (l : List ℕ). getD l f 0) here)
+      core = λ i f b b′. in-block k i _ _ (λ x. getD (core-words (core-of s′ x)) f 0) (λ q. ap (λ (l : List ℕ). getD l f 0) here)
         (λ ne. ap (λ (x : Core). getD (core-words x) f 0) (sym (getD-set-other (s .cores) k i c no-core ne)));
       process = λ p f low b b′. by-test (ltb f 20) (λ q. own-word s p f (ltb-true f 20 q) ∙ sym (own-word s′ p f (ltb-true f 20 q))) (λ q. link p f low b b′ (ltb-false f 20 q));
       channel = λ i f low b b′. refl;

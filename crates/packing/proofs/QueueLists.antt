@@ -57,9 +57,10 @@ times-again p l = rw (eq-eqb p p refl)
 pub times-first : (p x : ℕ) (l : List ℕ) → eqb x p ≡ true → 1 ≤ times p (x ∷ l)
 times-first p x l e = rw e (omega arith)
 
-pub times-last : (x : ℕ) (l : List ℕ) → 1 ≤ times (last (x ∷ l)) (x ∷ l)
-times-last x [] = times-first x x [] (eq-eqb x x refl)
-times-last x (y ∷ l) = omega (arith, times-last y l)
+pub times-last : (l : List ℕ) → 1 ≤ last l → 1 ≤ times (last l) l
+times-last [] h = absurd (omega arith)
+times-last (x ∷ []) h = times-first x x [] (eq-eqb x x refl)
+times-last (x ∷ (y ∷ l)) h = omega (arith, times-last (y ∷ l) h)
 
 -- What follows a number
 
@@ -87,18 +88,30 @@ follows-more p q (x ∷ []) ne = rw (ne-eqb x p (λ e. ne (sym e))) (follows-sin
 follows-more p q (x ∷ (y ∷ l)) ne = ap (λ n. if eqb x p then y else n) (follows-more p q (y ∷ l) ne)
 
 -- behind the last it is that one, if the last stands there once
-pub follows-last : (q x : ℕ) (l : List ℕ) → times (last (x ∷ l)) (x ∷ l) ≤ 1 → follows (last (x ∷ l)) (x ∷ l ++ (q ∷ [])) ≡ q
-follows-last q x [] once = rw (eq-eqb x x refl)
-follows-last q x (y ∷ l) once =
-    let before : x ≡ last (y ∷ l) → ⊥ = λ e. omega (arith, ap bit (eq-eqb x (last (y ∷ l)) e), times-last y l) in
-    rw (ne-eqb x (last (y ∷ l)) before) (follows-last q y l (omega arith))
+pub follows-last : (q : ℕ) (l : List ℕ) → 1 ≤ last l → times (last l) l ≤ 1 → follows (last l) (l ++ (q ∷ [])) ≡ q
+follows-last q [] h once = absurd (omega arith)
+follows-last q (x ∷ []) h once = rw (eq-eqb x x refl)
+follows-last q (x ∷ (y ∷ l)) h once =
+    let before : x ≡ last (y ∷ l) → ⊥ = λ e. omega (arith, ap bit (eq-eqb x (last (y ∷ l)) e), times-last (y ∷ l) h) in
+    rw (ne-eqb x (last (y ∷ l)) before) (follows-last q (y ∷ l) h (omega arith))
 
-pub last-more : (l : List ℕ) (q : ℕ) → last (l ++ (q ∷ [])) ≡ q
-last-more [] q = refl
-last-more (x ∷ []) q = refl
-last-more (x ∷ (y ∷ l)) q = last-more (y ∷ l) q
+pub last-append : (l : List ℕ) (x : ℕ) (m : List ℕ) → last (l ++ (x ∷ m)) ≡ last (x ∷ m)
+last-append [] x m = refl
+last-append (y ∷ []) x m = refl
+last-append (y ∷ (z ∷ l)) x m = last-append (z ∷ l) x m
 
 -- Heads
+
+pub heads-append : (l m : List (List ℕ)) → heads (l ++ m) ≡ heads l ++ heads m
+heads-append [] m = refl
+heads-append (x ∷ l) m = ap (λ (h : List ℕ). first x ∷ h) (heads-append l m)
+
+-- what a head keeps of its batch, and another process of it
+pub if-head-first : (f : List ℕ → ℕ) (p : ℕ) (l : List ℕ) → if-head f p (p ∷ l) ≡ f (p ∷ l)
+if-head-first f p l = rw (eq-eqb p p refl)
+
+pub if-head-other : (f : List ℕ → ℕ) (p x : ℕ) (l : List ℕ) → (p ≡ x → ⊥) → if-head f p (x ∷ l) ≡ 0
+if-head-other f p x l ne = rw (ne-eqb x p (λ e. ne (sym e)))
 
 -- a head keeps nothing of a batch where it doesn't stand
 pub if-head-none : (f : List ℕ → ℕ) (p : ℕ) (l : List ℕ) → 1 ≤ p → times p l ≡ 0 → if-head f p l ≡ 0

@@ -8,14 +8,14 @@ use native.Mathlib.Nat.{le-trans}
 use lib.Dec.{T, eqb, leb, leb→le}
 use lib.ListN.{length}
 use borrow.Author.Tests.{eq-eqb, ne-eqb}
-use Rattle.rules.specs.Lists.{if_then_else_, within, all, times, first, last}
+use Rattle.rules.specs.Lists.{if_then_else_, within, all, total, times, first, last}
 use Rattle.rules.specs.State.{State}
 use Rattle.rules.specs.Items.{core-of, no-core}
 use Rattle.rules.specs.Packing.{heads}
 use Rattle.rules.specs.Soundness.{not-empty, in-queues}
 use Rattle.packing.specs.Queues.{Queued}
 use Rattle.packing.proofs.Focus.{both, both-left, both-right}
-use Rattle.packing.proofs.QueueLists.{total-part, times-first, times-last}
+use Rattle.packing.proofs.QueueLists.{total-part, times-again, times-first, times-last, times-heads}
 use Rattle.packing.proofs.Links.{times-in, Stands}
 
 -- one of 1 to n
@@ -29,9 +29,18 @@ within-among n p h = (leb→le 1 p (both-left (leb 1 p) (leb p n) h), leb→le p
 pub first-among : (n x : ℕ) (l : List ℕ) → T (all (within 1 n) (x ∷ l)) → Among n x
 first-among n x l h = within-among n x (both-left (within 1 n x) (all (within 1 n) l) h)
 
-pub last-among : (n x : ℕ) (l : List ℕ) → T (all (within 1 n) (x ∷ l)) → Among n (last (x ∷ l))
+last-among : (n x : ℕ) (l : List ℕ) → T (all (within 1 n) (x ∷ l)) → Among n (last (x ∷ l))
 last-among n x [] h = first-among n x [] h
 last-among n x (y ∷ l) h = last-among n y l (both-right (within 1 n x) (all (within 1 n) (y ∷ l)) h)
+
+pub last-bound : (n : ℕ) (l : List ℕ) → T (all (within 1 n) l) → last l ≤ n
+last-bound n [] h = omega arith
+last-bound n (x ∷ l) h = last-among n x l h .1
+
+-- what is first when another is put at the end: that one where there was none, which the last shows
+pub first-more : (n p : ℕ) (l m : List ℕ) → T (all (within 1 n) l) → (if eqb (last l) 0 then p else first l) ≡ first (l ++ (p ∷ m))
+first-more n p [] m h = refl
+first-more n p (x ∷ l) m h = rw (ne-eqb (last (x ∷ l)) 0 (λ e. omega (arith, last-among n x l h .0)))
 
 -- what is last when the first is taken off: 0 where nothing is left, which its first shows
 pub last-rest : (n x : ℕ) (l : List ℕ) → T (all (within 1 n) l) → (if eqb (first l) 0 then 0 else last (x ∷ l)) ≡ last l
@@ -69,13 +78,35 @@ module _ (s : State) (k : ℕ) (inside : k < length (s .cores)) (queued : Queued
         at-most = le-trans (total-part (times-in p) (s .cores) k no-core inside) once;
       }
 
-  -- so does the first of the active queue, and the last
+  -- so does the first of the active queue
   pub first-stands : (p : ℕ) (rest : List ℕ) → core-of s k .active ≡ p ∷ rest → Stands s k p
   first-stands p rest e =
       let here : 1 ≤ times p (core-of s k .active) = rw e (times-first p p rest (eq-eqb p p refl)) in
       stands-once p (first-among _ p rest (rw e at active-among)) (omega arith)
 
-  pub last-stands : (p : ℕ) (rest : List ℕ) → core-of s k .active ≡ p ∷ rest → Stands s k (last (p ∷ rest))
-  last-stands p rest e =
-      let here : 1 ≤ times (last (p ∷ rest)) (core-of s k .active) = rw e (times-last p rest) in
-      stands-once (last (p ∷ rest)) (last-among _ p rest (rw e at active-among)) (omega arith)
+  -- it stands neither further on in that queue nor in a batch
+  pub first-once : (p : ℕ) (rest : List ℕ) → core-of s k .active ≡ p ∷ rest → (times p rest ≡ 0) × (total (times p) (core-of s k .run-queue) ≡ 0)
+  first-once p rest e =
+      let stands : Stands s k p = first-stands p rest e in
+      let count : times p (core-of s k .active) ≡ 1 + times p rest = ap (times p) e ∙ times-again p rest in
+      omega arith
+
+  -- the last of the active queue
+  pub last-stands : 1 ≤ last (core-of s k .active) → Stands s k (last (core-of s k .active))
+  last-stands low =
+      let here : 1 ≤ times (last (core-of s k .active)) (core-of s k .active) = times-last (core-of s k .active) low in
+      stands-once (last (core-of s k .active)) (low, last-bound _ (core-of s k .active) active-among) (omega arith)
+
+  -- and the last head, which is a head once
+  pub last-head-stands : 1 ≤ last (heads (core-of s k .run-queue)) → Stands s k (last (heads (core-of s k .run-queue)))
+  last-head-stands low =
+      let b : ℕ = last (heads (core-of s k .run-queue)) in
+      let here : 1 ≤ times b (heads (core-of s k .run-queue)) = times-last (heads (core-of s k .run-queue)) low in
+      stands-once b (low, last-bound _ (heads (core-of s k .run-queue)) core-heads-among) (omega (arith, times-heads b (core-of s k .run-queue) low))
+
+  pub last-head-once : (low : 1 ≤ last (heads (core-of s k .run-queue)))
+      → times (last (heads (core-of s k .run-queue))) (heads (core-of s k .run-queue)) ≤ 1
+  last-head-once low =
+      let b : ℕ = last (heads (core-of s k .run-queue)) in
+      let stands : Stands s k b = last-head-stands low in
+      omega (arith, times-heads b (core-of s k .run-queue) low)

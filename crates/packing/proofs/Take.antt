@@ -14,7 +14,7 @@ use Rattle.rules.specs.Packing.{word-at, process-at, core-at, next-link, pack}
 use Rattle.packing.specs.Queues.{take-writes, take-table, with-queues, Queued}
 use Rattle.packing.proofs.ReadLaws.{read-core, read-process, core-list}
 use Rattle.packing.proofs.Focus.{in-block, both-right}
-use Rattle.packing.proofs.QueueLists.{times-again, follows-none, follows-first, follows-rest, no-next}
+use Rattle.packing.proofs.QueueLists.{follows-none, follows-first, follows-rest, no-next}
 use Rattle.packing.proofs.Links.{
   held-first,
   held-core,
@@ -28,19 +28,18 @@ use Rattle.packing.proofs.Links.{
   next-head-kept,
   next-alone,
 }
-use Rattle.packing.proofs.Queued.{first-stands, active-among, last-rest}
+use Rattle.packing.proofs.Queued.{first-stands, first-once, active-among, last-rest}
 
 module _ (s : State) (k p : ℕ) (rest : List ℕ) (inside : k < length (s .cores)) (queued : Queued s) (e : core-of s k .active ≡ p ∷ rest) where
   -- who is next in the table is next in the queue
   pub next-read : word-at (pack s) (process-at (length (s .cores)) p 20) ≡ first rest
   next-read =
       let stands : Stands s k p = first-stands s k inside queued p rest e in
-      let count : times p (core-of s k .active) ≡ 1 + times p rest = ap (times p) e ∙ times-again p rest in
       let next : follows p (core-of s k .active) ≡ first rest = ap (follows p) e ∙ follows-first p rest in
       read-process s p 20 (stands .low) (stands .high) (lit< tt)
       ∙ next-kept s k (core-of s k) inside p refl
       ∙ next-alone s k (core-of s k) inside p stands
-      ∙ omega (arith, no-next p (core-of s k .run-queue) (omega arith))
+      ∙ omega (arith, no-next p (core-of s k .run-queue) (first-once s k inside queued p rest e .1))
 
   pub take-law : take-table (pack s) (length (s .cores)) k ≡ pack (put core k (with-queues rest (core-of s k .run-queue) (core-of s k)) s)
   take-law =
@@ -51,7 +50,7 @@ module _ (s : State) (k p : ℕ) (rest : List ℕ) (inside : k < length (s .core
           (held-core s k inside 5 _ tt (held-core s k inside 4 _ tt (held-core s k inside 3 (first rest) tt (held-first s k inside)))))
         (queue-entries c rest r refl (last-rest _ p rest among) (omega arith) refl refl)
         (record {
-          next = λ i low high. in-block p i 0 _ (λ i. next-link (put core k c′ s) i) (sym (next-alone s k c′ inside p stands ∙ unlinked))
+          next = λ i low high. in-block p i 0 _ (λ i. next-link (put core k c′ s) i) (λ q. sym (next-alone s k c′ inside p stands ∙ unlinked))
             (λ ne. next-kept s k c′ inside i (ap (λ n. n + total (follows i) r) (ap (follows i) e ∙ follows-rest i p rest ne)));
           batch-last = λ i low high. head-kept s k c′ inside last i refl;
           batch-size = λ i low high. head-kept s k c′ inside length i refl;
@@ -81,6 +80,5 @@ module _ (s : State) (k p : ℕ) (rest : List ℕ) (inside : k < length (s .core
 
       unlinked : next-in p c′ ≡ 0
       unlinked =
-          let count : times p (c .active) ≡ 1 + times p rest = ap (times p) e ∙ times-again p rest in
-          let once : times p (c .active) + total (times p) r ≤ 1 = stands .at-most in
-          omega (arith, follows-none p rest (omega arith), no-next p r (omega arith))
+          let once = first-once s k inside queued p rest e in
+          omega (arith, follows-none p rest (once .0), no-next p r (once .1))

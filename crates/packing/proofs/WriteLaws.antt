@@ -101,7 +101,7 @@ process-law s p r at ws low high b turned =
     writes-law processes s (with-process p r s) p at ws (low, high) b same-dims
     (record { header = λ f b′. ap (λ (l : List ℕ). getD l f 0) (same-header s (with-process p r s) same-dims);
       core = λ i f b′ b″. refl;
-      process = λ i f low′ b′ b″. in-block p i _ _ (λ x. getD (process-words (with-process p r s) x) f 0) refl (λ ne. ap (λ (l : List ℕ). getD l f 0) (others i ne));
+      process = λ i f low′ b′ b″. in-block p i _ _ (λ x. getD (process-words (with-process p r s) x) f 0) (λ e. refl) (λ ne. ap (λ (l : List ℕ). getD l f 0) (others i ne));
       channel = λ i f low′ b′ b″. refl })
     (ap (writes ws at) (process-split s p) ∙ turned ∙ sym here)
   where
@@ -170,7 +170,7 @@ channel-law s c r at ws low high b turned =
       header = λ f b′. ap (λ (l : List ℕ). getD l f 0) (same-header s (with-channel c r s) same-dims);
       core = λ i f b′ b″. refl;
       process = λ i f low′ b′ b″. refl;
-      channel = λ i f low′ b′ b″. in-block c i _ _ (λ x. getD (channel-list (channel-of (with-channel c r s) x)) f 0) refl (λ ne. ap (λ (x : Channel). getD (channel-list x) f 0) (sym (nth-set-other (s .channels) c i r no-channel ne)));
+      channel = λ i f low′ b′ b″. in-block c i _ _ (λ x. getD (channel-list (channel-of (with-channel c r s) x)) f 0) (λ e. refl) (λ ne. ap (λ (x : Channel). getD (channel-list x) f 0) (sym (nth-set-other (s .channels) c i r no-channel ne)));
     })
     (turned ∙ ap channel-list (sym (nth-set-same (s .channels) c r no-channel low high)))
   where

@@ -11,11 +11,13 @@ use Rattle.rules.specs.Items.{core-of}
 use Rattle.rules.specs.Packing.{word-at, core-at, process-at}
 use Rattle.rules.specs.Soundness.{not-empty, in-queues}
 
+-- Process p is linked behind the last one b by the word g of b; where there is none it is the first, the word f of core k.
+abbrev pub link-end : (f g b p : ℕ) → List ℕ → ℕ → ℕ → List ℕ
+link-end f g b p t K k = if eqb b 0 then set t (core-at k f) p else set t (process-at K b g) p
+
 -- Process q is put at the end of the active queue.
 abbrev pub push-writes : (last size : ℕ) → List ℕ → ℕ → ℕ → ℕ → List ℕ
-push-writes last size t K k q =
-    let linked = if eqb last 0 then set t (core-at k 3) q else set t (process-at K last 20) q in
-    set (set linked (core-at k 4) q) (core-at k 5) (size + 1)
+push-writes last size t K k q = set (set (link-end 3 20 last q t K k) (core-at k 4) q) (core-at k 5) (size + 1)
 
 abbrev pub push-table : List ℕ → ℕ → ℕ → ℕ → List ℕ
 push-table t K k q = push-writes (word-at t (core-at k 4)) (word-at t (core-at k 5)) t K k q
@@ -30,18 +32,13 @@ take-table t K k =
     let p = word-at t (core-at k 3) in
     take-writes p (word-at t (process-at K p 20)) (word-at t (core-at k 4)) (word-at t (core-at k 5)) t K k
 
--- The head p of a new batch is linked behind the last head b, or stands first where there is none; h is the last head then.
-abbrev pub link-head : (p b h : ℕ) → List ℕ → ℕ → ℕ → List ℕ
-link-head p b h t K k = set (if eqb b 0 then set t (core-at k 8) p else set t (process-at K b 23) p) (core-at k 9) h
-
--- The active queue is empty.
-abbrev pub empty-active : List ℕ → ℕ → List ℕ
-empty-active t k = set (set (set t (core-at k 3) 0) (core-at k 4) 0) (core-at k 5) 0
+-- A batch with the head p is put behind the last one, whose head is b; the last head is h then, and the active queue is empty.
+abbrev pub store-heads : (p h b : ℕ) → List ℕ → ℕ → ℕ → List ℕ
+store-heads p h b t K k = set (set (set (set (link-end 8 23 b p t K k) (core-at k 9) h) (core-at k 3) 0) (core-at k 4) 0) (core-at k 5) 0
 
 -- The active queue, with first process p, becomes the last batch.
 abbrev pub store-writes : (p last size b : ℕ) → List ℕ → ℕ → ℕ → List ℕ
-store-writes p last size b t K k =
-    empty-active (link-head p b p (set (set t (process-at K p 21) last) (process-at K p 22) size) K k) k
+store-writes p last size b t K k = store-heads p p b (set (set t (process-at K p 21) last) (process-at K p 22) size) K k
 
 abbrev pub store-table : List ℕ → ℕ → ℕ → List ℕ
 store-table t K k = store-writes (word-at t (core-at k 3)) (word-at t (core-at k 4)) (word-at t (core-at k 5)) (word-at t (core-at k 9)) t K k
@@ -50,7 +47,7 @@ store-table t K k = store-writes (word-at t (core-at k 3)) (word-at t (core-at k
 abbrev pub split-writes : (p q last size b : ℕ) → List ℕ → ℕ → ℕ → List ℕ
 split-writes p q last size b t K k =
     let alone = set (set (set (set t (process-at K p 20) 0) (process-at K p 21) p) (process-at K p 22) 1) (process-at K p 23) q in
-    empty-active (link-head p b q (set (set alone (process-at K q 21) last) (process-at K q 22) (size - 1)) K k) k
+    store-heads p q b (set (set alone (process-at K q 21) last) (process-at K q 22) (size - 1)) K k
 
 abbrev pub split-table : List ℕ → ℕ → ℕ → List ℕ
 split-table t K k =
