@@ -31,7 +31,7 @@ same-test a b c d there back = cases (eqb a b) refl
     cases true e = sym (eq-eqb c d (there (eqb-true a b e)))
     cases false e = sym (ne-eqb c d (λ q. eqb-false a b e (back q)))
 
--- the two parts of a conjunction of tests
+-- a conjunction of tests and its two parts
 pub both-left : (a b : Bool) → T (a && b) → T a
 both-left true b h = tt
 both-left false b h = h
@@ -39,6 +39,10 @@ both-left false b h = h
 pub both-right : (a b : Bool) → T (a && b) → T b
 both-right true b h = h
 both-right false b h = absurd h
+
+pub both : (a b : Bool) → T a → T b → T (a && b)
+both true b h g = g
+both false b h g = h
 
 -- Several writes
 
@@ -131,8 +135,9 @@ holds-same d v w t e h =
     }
 
 -- a block's words are those of W where its list is, and elsewhere
-pub in-block : (j i x y : ℕ) (W : ℕ → ℕ) → x ≡ W j → ((i ≡ j → ⊥) → y ≡ W i) → (if eqb i j then x else y) ≡ W i
-in-block j i x y W here others = by-test (eqb i j) (λ q. here ∙ ap W (sym (eqb-true i j q))) (λ q. others (eqb-false i j q))
+pub in-block : (j i x y : ℕ) (W : ℕ → ℕ) → (i ≡ j → x ≡ W j) → ((i ≡ j → ⊥) → y ≡ W i) → (if eqb i j then x else y) ≡ W i
+in-block j i x y W here others =
+    by-test (eqb i j) (λ q. here (eqb-true i j q) ∙ ap W (sym (eqb-true i j q))) (λ q. others (eqb-false i j q))
 
 -- a word written at the address of place g of block j: an address b of place f of block i is that one only if i is j and f is g
 block-set : (j g v : ℕ) (l : List ℕ) (W : ℕ → ℕ → ℕ) (i f a b : ℕ) → g < length l → (a ≡ b → i ≡ j) → (a ≡ b → f ≡ g) → (i ≡ j → f ≡ g → a ≡ b)
@@ -193,7 +198,7 @@ pub focus-start : (r : Region) (d : Dims) (w : Words) (j : ℕ) (l t : List ℕ)
 focus-start r d w j l t e h = holds-same d w (focus r j l w) t (same r e) h
   where
     at-block : (W : ℕ → ℕ → ℕ) → ((f : ℕ) → W j f ≡ getD l f 0) → (i f : ℕ) → W i f ≡ block j l W i f
-    at-block W e i f = sym (in-block j i (getD l f 0) (W i f) (λ i. W i f) (sym (e f)) (λ ne. refl))
+    at-block W e i f = sym (in-block j i (getD l f 0) (W i f) (λ i. W i f) (λ q. sym (e f)) (λ ne. refl))
 
     same : (r : Region) → ((f : ℕ) → words-in r w j f ≡ getD l f 0) → Same d w (focus r j l w)
     same cores e = record { header = λ f b. refl; core = λ i f b b′. at-block (w .core) e i f; process = λ i f low b b′. refl; channel = λ i f low b b′. refl }

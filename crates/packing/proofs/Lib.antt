@@ -14,3 +14,7 @@ pub mod Focus
 pub mod QueueLists
 pub mod Links
 pub mod WriteLaws
+pub mod Queued
+pub mod Push
+pub mod Take
+pub mod Store

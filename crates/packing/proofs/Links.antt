@@ -7,9 +7,9 @@ use mathlib.Core.List.{List, [], _∷_, _++_}
 use native.Mathlib.Omega.{arith}
 use lib.Dec.{T, eqb, ltb, leb, leb→le, ltb→lt}
 use lib.ListN.{length, getD, set, length-set, length-append}
-use lib.Seq.{getD-set-same, getD-set-other}
+use lib.Seq.{getD-set-same, getD-set-other, set-getD}
 use borrow.Author.Tests.{eqb-true, eqb-false, ltb-true, ltb-false}
-use Rattle.rules.specs.Lists.{if_then_else_, total, times, last, follows}
+use Rattle.rules.specs.Lists.{if_then_else_, total, bit, times, first, last, follows}
 use Rattle.rules.specs.State.{Core, queues-of, State}
 use Rattle.rules.specs.Items.{core-of, process-of, no-core, put, core}
 use Rattle.rules.specs.SetUp.{room}
@@ -22,16 +22,17 @@ use Rattle.rules.specs.Packing.{
   core-words,
   process-words,
   channel-words,
-  progress-words,
+  work-words,
   pack,
   core-at,
   process-at,
   channel-at,
 }
 use Rattle.rules.specs.Soundness.{in-queues}
+use Rattle.packing.specs.Queues.{link-end, with-queues}
 use Rattle.packing.proofs.Regions.{Dims, Words, Holds, Same, holds-set, written}
 use Rattle.packing.proofs.Blocks.{dims, words-of, pack-holds, length-progress-words, first-part, second-part}
-use Rattle.packing.proofs.ReadLaws.{own-words, link-words, process-split, core-list, core-listed}
+use Rattle.packing.proofs.ReadLaws.{own-words, link-words, process-split, listed, core-list, core-listed}
 use Rattle.packing.proofs.Focus.{
   by-test,
   same-test,
@@ -49,7 +50,7 @@ use Rattle.packing.proofs.Focus.{
   packed,
   same-header,
 }
-use Rattle.packing.proofs.QueueLists.{total-set, total-none, total-alone, follows-none, if-head-none, times-heads}
+use Rattle.packing.proofs.QueueLists.{total-set, total-alone, no-next, no-head, no-next-head}
 
 -- Links as words 20 to 23 of processes
 
@@ -151,6 +152,35 @@ module _ (s : State) (k : ℕ) (inside : k < length (s .cores)) where
             link-set (dims s) (focus cores k l (words-of s)) L p f v t low high (leb→le 20 f (both-left (leb 20 f) (ltb f 24) b)) (ltb→lt f 24 (both-right (leb 20 f) (ltb f 24) b)) (h .held);
         }
 
+  -- there is no process 0 whose link could be written
+  held-nobody : (f v : ℕ) {l : List ℕ} {L : ℕ → ℕ → ℕ} {t : List ℕ} → Held s k l L t → Held s k l (write-link f 0 v L) t
+  held-nobody f v {l} {L} {t} h =
+      record {
+        size = h .size;
+        held =
+          holds-same (dims s) (with-links L (focus cores k l (words-of s))) _ t
+          (record {
+            header = λ g b. refl;
+            core = λ i g b b′. refl;
+            process = λ i g low b b′.
+              ap (λ n. if ltb g 20 then words-of s .process i g else n) (sym (by-test (eqb g f) (λ e. apart i 0 v (L g i) (λ z. omega arith)) (λ e. refl)));
+            channel = λ i g low b b′. refl;
+          })
+          (h .held);
+      }
+
+  -- process p is linked behind the last one, or first where there is none
+  pub held-end : (f g b p : ℕ) {l : List ℕ} {L : ℕ → ℕ → ℕ} {t : List ℕ} → T (ltb f 16) → T (leb 20 g && ltb g 24) → b ≤ length (s .processes)
+      → Held s k l L t
+      → Held s k (set l f (if eqb b 0 then p else getD l f 0)) (write-link g b p L) (link-end f g b p t (length (s .cores)) k)
+  held-end f g b p {l} {L} {t} hf hg high h = cases (eqb b 0) refl
+    where
+      cases : (x : Bool) → eqb b 0 ≡ x
+          → Held s k (set l f (if x then p else getD l f 0)) (write-link g b p L)
+            (if x then set t (core-at k f) p else set t (process-at (length (s .cores)) b g) p)
+      cases true e = rw (eqb-true b 0 e) (held-core f p hf (held-nobody g p h))
+      cases false e = rw (set-getD l f 0) (held-link g b p hg (omega (arith, eqb-false b 0 e)) high h)
+
   -- several words of the core are written
   pub held-writes : (at : ℕ → ℕ) (ws : List (ℕ × ℕ)) {l : List ℕ} {L : ℕ → ℕ → ℕ} {t : List ℕ} → T (below 16 at ws)
       → Held s k l L t → Held s k (writes ws at l) L (writes ws (λ f. core-at k (at f)) t)
@@ -180,7 +210,7 @@ held-last s k c l L t inside h e linked =
     packed s s′ _ t same-dims (h .held)
     (record {
       header = λ f b. ap (λ (l : List ℕ). getD l f 0) (same-header s s′ same-dims);
-      core = λ i f b b′. in-block k i _ _ (λ x. getD (core-words (core-of s′ x)) f 0) (ap (λ (l : List ℕ). getD l f 0) here)
+      core = λ i f b b′. in-block k i _ _ (λ x. getD (core-words (core-of s′ x)) f 0) (λ q. ap (λ (l : List ℕ). getD l f 0) here)
         (λ ne. ap (λ (x : Core). getD (core-words x) f 0) (sym (getD-set-other (s .cores) k i c no-core ne)));
       process = λ p f low b b′. by-test (ltb f 20) (λ q. own-word s p f (ltb-true f 20 q) ∙ sym (own-word s′ p f (ltb-true f 20 q))) (λ q. link p f low b b′ (ltb-false f 20 q));
       channel = λ i f low b b′. refl;
@@ -200,6 +230,14 @@ held-last s k c l L t inside h e linked =
         let q : 20 + (f - 20) ≡ f = omega arith in
         (rw q at (linked-word (length (s .processes)) L s′ linked p (f - 20) low high (omega arith))) ∙ sym (link-word s′ p f from)
 
+-- the words of a core with other queues
+pub queue-entries : (c : Core) (active : List ℕ) (batches : List (List ℕ)) {a b n h g : ℕ}
+    → a ≡ first active → b ≡ last active → n ≡ length active → h ≡ first (heads batches) → g ≡ last (heads batches)
+    → listed (work-words (c .work)) 3 ++ (a ∷ b ∷ n ∷ c .dispatch ∷ bit (c .mark) ∷ h ∷ g ∷ 0 ∷ 0 ∷ 0 ∷ 0 ∷ 0 ∷ 0 ∷ [])
+    ≡ core-list (with-queues active batches c)
+queue-entries c active batches e₁ e₂ e₃ e₄ e₅ =
+    λ i. listed (work-words (c .work)) 3 ++ (e₁ i ∷ e₂ i ∷ e₃ i ∷ c .dispatch ∷ bit (c .mark) ∷ e₄ i ∷ e₅ i ∷ 0 ∷ 0 ∷ 0 ∷ 0 ∷ 0 ∷ 0 ∷ [])
+
 -- A core's share in the links
 
 abbrev pub next-in : ℕ → Core → ℕ
@@ -215,23 +253,46 @@ next-head-in p c = follows p (heads (c .run-queue))
 abbrev pub times-in : ℕ → Core → ℕ
 times-in p c = total (times p) (queues-of c)
 
--- where p stands in no queue, the core has no share
-pub next-none : (p : ℕ) (c : Core) → times-in p c ≡ 0 → next-in p c ≡ 0
-next-none p c h = total-none (times p) (follows p) (queues-of c) (follows-none p) h
-
-pub head-none : (f : List ℕ → ℕ) (p : ℕ) → 1 ≤ p → (c : Core) → times-in p c ≡ 0 → head-in f p c ≡ 0
-head-none f p low c h = total-none (times p) (if-head f p) (c .run-queue) (λ l e. if-head-none f p l low e) (omega arith)
-
-pub next-head-none : (p : ℕ) → 1 ≤ p → (c : Core) → times-in p c ≡ 0 → next-head-in p c ≡ 0
-next-head-none p low c h = follows-none p (heads (c .run-queue)) (omega (arith, times-heads p (c .run-queue) low))
+-- p stands in the queues of core k, once, and nowhere else
+pub record Stands (s : State) (k p : ℕ) : Type 0 where
+  pub low : 1 ≤ p
+  pub high : p ≤ length (s .processes)
+  pub once : in-queues s p ≤ 1
+  pub here : 1 ≤ times-in p (core-of s k)
+  pub at-most : times-in p (core-of s k) ≤ 1
 
 module _ (s : State) (k : ℕ) (c : Core) (inside : k < length (s .cores)) where
-  -- a link keeps its value where the core's share keeps its
-  pub share-kept : (share : Core → ℕ) → share (core-of s k) ≡ share c → total share (s .cores) ≡ total share (set (s .cores) k c)
+  -- a sum over the cores keeps its value where the core's share keeps its
+  share-kept : (share : Core → ℕ) → share (core-of s k) ≡ share c → total share (s .cores) ≡ total share (set (s .cores) k c)
   share-kept share e = omega (arith, total-set share (s .cores) k c no-core inside, e)
 
-  -- a link of a process that stands in that core's queues is that core's share
-  pub share-alone : (p : ℕ) (share : Core → ℕ) → ((c : Core) → times-in p c ≡ 0 → share c ≡ 0) → in-queues s p ≤ 1 → 1 ≤ times-in p (core-of s k)
-      → total share (set (s .cores) k c) ≡ share c
-  unfolding in-queues
-  share-alone p share none once here = total-alone (times-in p) share (s .cores) k c no-core none inside once here
+  -- so does each link
+  pub next-kept : (p : ℕ) → next-in p (core-of s k) ≡ next-in p c → next-link s p ≡ next-link (put core k c s) p
+  unfolding next-link
+  next-kept p e = share-kept (next-in p) e
+
+  pub head-kept : (f : List ℕ → ℕ) (p : ℕ) → head-in f p (core-of s k) ≡ head-in f p c → head-link f s p ≡ head-link f (put core k c s) p
+  unfolding head-link
+  head-kept f p e = share-kept (head-in f p) e
+
+  pub next-head-kept : (p : ℕ) → next-head-in p (core-of s k) ≡ next-head-in p c → batch-link s p ≡ batch-link (put core k c s) p
+  unfolding batch-link
+  next-head-kept p e = share-kept (next-head-in p) e
+
+  -- a link of a process that stands in the core's queues is the core's share
+  module _ (p : ℕ) (stands : Stands s k p) where
+    share-alone : (share : Core → ℕ) → ((x : Core) → times-in p x ≡ 0 → share x ≡ 0) → total share (set (s .cores) k c) ≡ share c
+    unfolding in-queues
+    share-alone share none = total-alone (times-in p) share (s .cores) k c no-core none inside (stands .once) (stands .here)
+
+    pub next-alone : next-link (put core k c s) p ≡ next-in p c
+    unfolding next-link
+    next-alone = share-alone (next-in p) (λ x h. no-next p (queues-of x) h)
+
+    pub head-alone : (f : List ℕ → ℕ) → head-link f (put core k c s) p ≡ head-in f p c
+    unfolding head-link
+    head-alone f = share-alone (head-in f p) (λ x h. no-head f p (x .run-queue) (stands .low) (omega arith))
+
+    pub next-head-alone : batch-link (put core k c s) p ≡ next-head-in p c
+    unfolding batch-link
+    next-head-alone = share-alone (next-head-in p) (λ x h. no-next-head p (x .run-queue) (stands .low) (omega arith))

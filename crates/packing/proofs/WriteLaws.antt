@@ -39,7 +39,7 @@ use Rattle.packing.proofs.Blocks.{
   length-channel-words,
   length-progress-words,
 }
-use Rattle.packing.proofs.Links.{links-of, held-first, held-writes, held-last, next-in, head-in, next-head-in, share-kept}
+use Rattle.packing.proofs.Links.{links-of, held-first, held-writes, held-last, next-kept, head-kept, next-head-kept}
 use Rattle.packing.proofs.ReadLaws.{core-list, alternation-words, own-words, link-words, channel-list, process-split}
 use Rattle.packing.proofs.Focus.{Region, cores, processes, channels, size-in, Has, address, words-in, focus, focus-start, focus-writes, in-block, packed, same-header, writes, below, writes-inside, below-shifted, by-test}
 
@@ -101,7 +101,7 @@ process-law s p r at ws low high b turned =
     writes-law processes s (with-process p r s) p at ws (low, high) b same-dims
     (record { header = λ f b′. ap (λ (l : List ℕ). getD l f 0) (same-header s (with-process p r s) same-dims);
       core = λ i f b′ b″. refl;
-      process = λ i f low′ b′ b″. in-block p i _ _ (λ x. getD (process-words (with-process p r s) x) f 0) refl (λ ne. ap (λ (l : List ℕ). getD l f 0) (others i ne));
+      process = λ i f low′ b′ b″. in-block p i _ _ (λ x. getD (process-words (with-process p r s) x) f 0) (λ e. refl) (λ ne. ap (λ (l : List ℕ). getD l f 0) (others i ne));
       channel = λ i f low′ b′ b″. refl })
     (ap (writes ws at) (process-split s p) ∙ turned ∙ sym here)
   where
@@ -170,7 +170,7 @@ channel-law s c r at ws low high b turned =
       header = λ f b′. ap (λ (l : List ℕ). getD l f 0) (same-header s (with-channel c r s) same-dims);
       core = λ i f b′ b″. refl;
       process = λ i f low′ b′ b″. refl;
-      channel = λ i f low′ b′ b″. in-block c i _ _ (λ x. getD (channel-list (channel-of (with-channel c r s) x)) f 0) refl (λ ne. ap (λ (x : Channel). getD (channel-list x) f 0) (sym (nth-set-other (s .channels) c i r no-channel ne)));
+      channel = λ i f low′ b′ b″. in-block c i _ _ (λ x. getD (channel-list (channel-of (with-channel c r s) x)) f 0) (λ e. refl) (λ ne. ap (λ (x : Channel). getD (channel-list x) f 0) (sym (nth-set-other (s .channels) c i r no-channel ne)));
     })
     (turned ∙ ap channel-list (sym (nth-set-same (s .channels) c r no-channel low high)))
   where
@@ -194,12 +194,11 @@ pub put-core : (s : State) (k : ℕ) (c : Core) (at : ℕ → ℕ) (ws : List (�
     → core-of s k .active ≡ c .active → core-of s k .run-queue ≡ c .run-queue
     → writes ws at (core-list (core-of s k)) ≡ core-list c
     → writes ws (λ f. core-at k (at f)) (pack s) ≡ pack (put core k c s)
-unfolding next-link head-link batch-link
 put-core s k c at ws inside b same-active same-batches turned =
     held-last s k c (writes ws at (core-list (core-of s k))) (links-of s) _ inside (held-writes s k inside at ws b (held-first s k inside)) turned
     (record {
-      next = λ p low high. share-kept s k c inside (next-in p) (ap₂ (λ a r. total (follows p) (a ∷ r)) same-active same-batches);
-      batch-last = λ p low high. share-kept s k c inside (head-in last p) (ap (total (if-head last p)) same-batches);
-      batch-size = λ p low high. share-kept s k c inside (head-in length p) (ap (total (if-head length p)) same-batches);
-      next-head = λ p low high. share-kept s k c inside (next-head-in p) (ap (λ r. follows p (heads r)) same-batches);
+      next = λ p low high. next-kept s k c inside p (ap₂ (λ a r. total (follows p) (a ∷ r)) same-active same-batches);
+      batch-last = λ p low high. head-kept s k c inside last p (ap (total (if-head last p)) same-batches);
+      batch-size = λ p low high. head-kept s k c inside length p (ap (total (if-head length p)) same-batches);
+      next-head = λ p low high. next-head-kept s k c inside p (ap (λ r. follows p (heads r)) same-batches);
     })
