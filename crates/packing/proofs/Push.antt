@@ -36,15 +36,15 @@ pub push-law : (s : State) (k q : ℕ) → k < length (s .cores) → Queued s
 push-law s k q inside queued =
     ap₂ (λ l n. push-writes l n (pack s) (length (s .cores)) k q) (read-core s k 4 inside (lit< tt)) (read-core s k 5 inside (lit< tt))
     ∙ held-last s k c′ _ _ _ inside
-      (held-core s k inside 5 (length l + 1) tt (held-core s k inside 4 q tt (held-end s k inside 3 20 a q tt tt bound (held-first s k inside))))
-      (queue-entries c (l ++ (q ∷ [])) r (first-more _ q l [] among) (sym (last-append l q [])) (sym (length-append l (q ∷ []))) refl refl)
-      (record {
-        next = λ p low high. in-block a p q _ (λ p. next-link (put core k c′ s) p) (λ e. sym (linked (omega arith)))
+    (held-core s k inside 5 (length l + 1) tt (held-core s k inside 4 q tt (held-end s k inside 3 20 a q tt tt bound (held-first s k inside))))
+    (queue-entries c (l ++ (q ∷ [])) r (first-more _ q l [] among) (sym (last-append l q [])) (sym (length-append l (q ∷ []))) refl refl)
+    (record {
+      next = λ p low high. in-block a p q _ (λ p. next-link (put core k c′ s) p) (λ e. sym (linked (omega arith)))
           (λ ne. next-kept s k c′ inside p (ap (λ n. n + total (follows p) r) (sym (follows-more p q l ne))));
-        batch-last = λ p low high. head-kept s k c′ inside last p refl;
-        batch-size = λ p low high. head-kept s k c′ inside length p refl;
-        next-head = λ p low high. next-head-kept s k c′ inside p refl;
-      })
+      batch-last = λ p low high. head-kept s k c′ inside last p refl;
+      batch-size = λ p low high. head-kept s k c′ inside length p refl;
+      next-head = λ p low high. next-head-kept s k c′ inside p refl;
+    })
   where
     c : Core
     c = core-of s k

@@ -96,7 +96,7 @@ process-listed s p =
     let r = process-of s p in
     process-split s p
     ∙ ap (λ (l : List ℕ). place-number (r .place) ∷ r .data-word ∷ alternation-words (r .alternation) ++ l ++ link-words s p)
-      (listed-same (progress-words (r .progress)) 14 (length-progress-words (r .progress)))
+    (listed-same (progress-words (r .progress)) 14 (length-progress-words (r .progress)))
 
 -- a channel's 4
 abbrev pub channel-list : Channel → List ℕ

@@ -46,16 +46,16 @@ module _ (s : State) (k p : ℕ) (rest : List ℕ) (inside : k < length (s .core
       ap (λ x. take-writes x (word-at t (process-at K x 20)) (word-at t (core-at k 4)) (word-at t (core-at k 5)) t K k) (read-core s k 3 inside (lit< tt) ∙ ap first e)
       ∙ (λ i. take-writes p (next-read i) ((read-core s k 4 inside (lit< tt) ∙ ap last e) i) ((read-core s k 5 inside (lit< tt) ∙ ap length e) i) t K k)
       ∙ held-last s k c′ _ _ _ inside
-        (held-link s k inside 20 p 0 tt (stands .low) (stands .high)
-          (held-core s k inside 5 _ tt (held-core s k inside 4 _ tt (held-core s k inside 3 (first rest) tt (held-first s k inside)))))
-        (queue-entries c rest r refl (last-rest _ p rest among) (omega arith) refl refl)
-        (record {
-          next = λ i low high. in-block p i 0 _ (λ i. next-link (put core k c′ s) i) (λ q. sym (next-alone s k c′ inside p stands ∙ unlinked))
+      (held-link s k inside 20 p 0 tt (stands .low) (stands .high)
+      (held-core s k inside 5 _ tt (held-core s k inside 4 _ tt (held-core s k inside 3 (first rest) tt (held-first s k inside)))))
+      (queue-entries c rest r refl (last-rest _ p rest among) (omega arith) refl refl)
+      (record {
+        next = λ i low high. in-block p i 0 _ (λ i. next-link (put core k c′ s) i) (λ q. sym (next-alone s k c′ inside p stands ∙ unlinked))
             (λ ne. next-kept s k c′ inside i (ap (λ n. n + total (follows i) r) (ap (follows i) e ∙ follows-rest i p rest ne)));
-          batch-last = λ i low high. head-kept s k c′ inside last i refl;
-          batch-size = λ i low high. head-kept s k c′ inside length i refl;
-          next-head = λ i low high. next-head-kept s k c′ inside i refl;
-        })
+        batch-last = λ i low high. head-kept s k c′ inside last i refl;
+        batch-size = λ i low high. head-kept s k c′ inside length i refl;
+        next-head = λ i low high. next-head-kept s k c′ inside i refl;
+      })
     where
       K : ℕ
       K = length (s .cores)

@@ -62,7 +62,7 @@ pub writes-law : (r : Region) (s s′ : State) (j : ℕ) (at : ℕ → ℕ) (ws 
 writes-law r s s′ j at ws h b e same turned =
     packed s s′ (focus r j (writes ws at (block-words r s j)) (words-of s)) _ e
     (focus-writes r (dims s) (words-of s) j at ws (block-words r s j) (pack s) h (length-block-words r s j) b
-     (focus-start r (dims s) (words-of s) j (block-words r s j) (pack s) (own r) (pack-holds s)))
+    (focus-start r (dims s) (words-of s) j (block-words r s j) (pack s) (own r) (pack-holds s)))
     (rw turned same)
   where
     own : (r : Region) (f : ℕ) → words-in r (words-of s) j f ≡ getD (block-words r s j) f 0
@@ -99,10 +99,12 @@ pub process-law : (s : State) (p : ℕ) (r : Process) (at : ℕ → ℕ) (ws : L
 unfolding next-link head-link batch-link
 process-law s p r at ws low high b turned =
     writes-law processes s (with-process p r s) p at ws (low, high) b same-dims
-    (record { header = λ f b′. ap (λ (l : List ℕ). getD l f 0) (same-header s (with-process p r s) same-dims);
+    (record {
+      header = λ f b′. ap (λ (l : List ℕ). getD l f 0) (same-header s (with-process p r s) same-dims);
       core = λ i f b′ b″. refl;
       process = λ i f low′ b′ b″. in-block p i _ _ (λ x. getD (process-words (with-process p r s) x) f 0) (λ e. refl) (λ ne. ap (λ (l : List ℕ). getD l f 0) (others i ne));
-      channel = λ i f low′ b′ b″. refl })
+      channel = λ i f low′ b′ b″. refl;
+    })
     (ap (writes ws at) (process-split s p) ∙ turned ∙ sym here)
   where
     same-dims : dims (with-process p r s) ≡ dims s

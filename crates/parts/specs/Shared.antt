@@ -3,6 +3,9 @@ use Prim.Native.Nat.{ℕ}
 use mathlib.Core.List.{List}
 use lib.ListN.{set, replicate}
 use lib.Seq.{sets}
+use lib.Dec.{eqb}
+use Rattle.rules.specs.Lists.{if_then_else_}
+use Rattle.rules.specs.Numbers.{Answer, GO, SENT, GOT, CHOSE}
 use Rattle.rules.specs.Packing.{core-at, process-at}
 
 -- core k runs nothing and has a task, of process q
@@ -14,9 +17,14 @@ abbrev pub asleep-table : List ℕ → ℕ → ℕ → ℕ → ℕ → ℕ → L
 asleep-table t cores k p task q = task-table (set t (process-at cores p 0) 3) k task q
 
 -- process p has nothing in hand: the 14 words of its progress are 0
-abbrev pub cleared : List ℕ → ℕ → ℕ → List ℕ
+unfoldable pub cleared : List ℕ → ℕ → ℕ → List ℕ
 cleared t cores p = sets t (process-at cores p 6) (replicate 14 0)
 
 -- process p has an outcome due, of this number and of channel c
 abbrev pub due-table : List ℕ → ℕ → ℕ → ℕ → ℕ → List ℕ
 due-table t cores p number c = set (set (cleared t cores p) (process-at cores p 6) number) (process-at cores p 7) c
+
+-- the answer to an outcome of this number, of process p, channel c and data word v
+abbrev pub reported : ℕ → ℕ → ℕ → ℕ → Answer
+reported number p c v =
+    if eqb number 20 then GO p else if eqb number 21 then SENT p c else if eqb number 22 then GOT p c v else CHOSE p c

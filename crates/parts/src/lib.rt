@@ -6,8 +6,9 @@ ghost use Rattle.rules.specs.Numbers.{MOVED, SLEPT, yes-with};
 ghost use Rattle.rules.specs.Packing.{core-at, process-at};
 ghost use Rattle.answers.specs.Four.{four};
 ghost use Rattle.table.specs.Has.{HasCore, HasProcess};
-ghost use Rattle.parts.specs.Shared.{task-table, asleep-table, cleared, due-table};
-
+ghost use Rattle.parts.specs.Does.{of-way};
+ghost use Rattle.parts.specs.Ways.{which};
+ghost use Rattle.parts.specs.Shared.{task-table, asleep-table, cleared, due-table, reported};
 use answers::Reply;
 
 // The request of process p goes on at the stage of number n.
@@ -64,4 +65,47 @@ pub fn set_due(t: &mut [u32], cores: usize, p: u32, number: u32, c: u32)
     let at = 8 + 16 * cores + 24 * (i - 1);
     t[at + 6] = number;
     t[at + 7] = c;
+}
+
+// The end of a channel that a request is made at.
+pub enum Way {
+    Sending,
+    Receiving,
+}
+
+// The number of a stage of send or receive: those of receive are 5 more.
+pub fn numbered(way: Way, n: u32) -> u32
+    requires { ⌜ n < 100 ⌝ }
+    ensures { λ r. ⌜ r ≡ of-way (which way) n ⌝ }
+{
+    match way {
+        Way::Sending => n,
+        Way::Receiving => n + 5,
+    }
+}
+
+// The answer to an outcome: 20 GO, 21 SENT, 22 GOT, 23 CHOSE; of process p, channel c and data word v.
+fn answer_to(number: u32, p: u32, c: u32, v: u32) -> Reply
+    ensures { λ r. ⌜ r ≡ four (yes-with (reported number p c v)) ⌝ }
+{
+    if number == 20 {
+        answers::go(p)
+    } else if number == 21 {
+        answers::sent(p, c)
+    } else if number == 22 {
+        answers::got(p, c, v)
+    } else {
+        answers::chose(p, c)
+    }
+}
+
+// Process p has come to an outcome: it answers, and has nothing in hand.
+pub fn reports(t: &mut [u32], cores: usize, p: u32, number: u32, c: u32) -> Reply
+    requires { ⌜ HasProcess (now t) cores p ⌝ }
+    ensures table { λ r. ⌜ now (t .exit) ≡ cleared (now (t .entry)) cores p ⌝ }
+    ensures reply { λ r. ⌜ r ≡ four (yes-with (reported number p c (getD (now (t .entry)) (process-at cores p 1) 0))) ⌝ }
+{
+    let v = table::process_word(t, cores, p, 1);
+    clear_progress(t, cores, p);
+    answer_to(number, p, c, v)
 }

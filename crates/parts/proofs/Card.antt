@@ -1,0 +1,97 @@
+-- What is known of a sound table and of the process that runs on one of its cores.
+use Prim.Native.Nat.{ℕ, zero, suc, _+_, _*_, _-_, _≤_, _<_}
+use mathlib.Core.Path.{_≡_, refl, sym, ap, _∙_, subst}
+use mathlib.Core.Bool.{Bool, true, false}
+use mathlib.Core.List.{List}
+use native.Mathlib.Omega.{arith}
+use lib.Dec.{T, eqb}
+use lib.ListN.{length, length-map}
+use borrow.Author.Tests.{eqb-true}
+use Rattle.rules.specs.State.{Way, Stage, Progress, Work, Channel, State, wiring, end-of}
+use Rattle.rules.specs.Items.{core-of, process-of, channel-of}
+use Rattle.rules.specs.SetUp.{room}
+use Rattle.rules.specs.Packing.{pack, view, K-of, N-of, M-of, core-at, process-at, channel-at, word-number}
+use Rattle.rules.specs.Lists.{same-words, within}
+use Rattle.rules.specs.Soundness.{is-process, own-end, valid-stage, valid-progress, valid-work, valid, sound}
+use Rattle.packing.proofs.Regions.{Holds}
+use Rattle.packing.proofs.Blocks.{pack-holds}
+use Rattle.packing.proofs.Reflect.{Valid, valid-means, both, within-means, same-words-means}
+use Rattle.packing.proofs.Reading.{header-of-pack}
+use Rattle.packing.proofs.Means.{sound-means}
+use Rattle.table.specs.Has.{HasCore, HasProcess, HasChannel}
+use Rattle.table.proofs.Has.{has-core, has-process, has-channel}
+use Rattle.parts.specs.Does.{Card, At}
+
+module _ (t : List ℕ) (sure : T (sound t)) where
+  -- the table is the packing of the state that is read out of it, which is valid
+  pub packed : t ≡ pack (view t)
+  unfolding sound
+  packed = sym (same-words-means (pack (view t)) t (both (valid (view t)) (same-words (pack (view t)) t) sure .1))
+
+  pub view-valid : T (valid (view t))
+  unfolding sound
+  view-valid = both (valid (view t)) (same-words (pack (view t)) t) sure .0
+
+  pub facts : Valid (view t)
+  facts = valid-means (view t) view-valid
+
+  -- the header's K, N and M, and the table's length
+  pub K-is : K-of t ≡ length (view t .cores)
+  K-is = ap K-of packed ∙ header-of-pack (view t) .cores
+
+  pub N-is : N-of t ≡ length (view t .processes)
+  N-is = ap N-of packed ∙ header-of-pack (view t) .processes
+
+  pub M-is : M-of t ≡ length (view t .channels)
+  M-is = ap M-of packed ∙ header-of-pack (view t) .channels
+
+  pub length-is : length t ≡ room (length (view t .cores)) (length (view t .processes)) (length (view t .channels))
+  length-is = ap length packed ∙ pack-holds (view t) .size
+
+module _ (t : List ℕ) (cores processes k : ℕ) (card : Card t cores processes k) where
+  -- as many cores and processes as the state has
+  pub cores-are : cores ≡ length (view t .cores)
+  cores-are = card .all-cores ∙ K-is t (card .is-sound)
+
+  pub processes-are : processes ≡ length (view t .processes)
+  processes-are = card .all-processes ∙ N-is t (card .is-sound)
+
+  -- the words of the core, of a process and of a channel are in the table
+  pub card-core : HasCore t k
+  card-core = has-core t k (let e = cores-are in let l = length-is t (card .is-sound) in let h = card .inside in omega arith)
+
+  pub card-process : (p : ℕ) → 1 ≤ p → p ≤ length (view t .processes) → HasProcess t cores p
+  card-process p low high = has-process t cores p low (let e = cores-are in let l = length-is t (card .is-sound) in omega arith)
+
+  pub card-channel : (c : ℕ) → 1 ≤ c → c ≤ length (view t .channels) → HasChannel t cores processes c
+  card-channel c low high =
+      has-channel t cores processes c low (let e = cores-are in let f = processes-are in let l = length-is t (card .is-sound) in omega arith)
+
+-- a process number in its range
+is-process-range : (s : State) (p : ℕ) → T (is-process (wiring s) p) → (1 ≤ p) × (p ≤ length (s .processes))
+is-process-range s p h = within-means 1 (length (s .processes)) p h
+
+-- a channel whose end a process is
+pub own-end-range : (s : State) (way : Way) (p c : ℕ) → T (own-end (wiring s) way p c) → (1 ≤ c) × (c ≤ length (s .channels))
+own-end-range s way p c h =
+    let r = within-means 1 (length (wiring s .ends)) c (both (within 1 (length (wiring s .ends)) c) (eqb (end-of (wiring s) way c) p) h .0) in
+    (r .0, subst (λ (m : ℕ). c ≤ m) (length-map (s .channels) (λ (x : Channel). x .ends)) (r .1))
+
+module _ (t : List ℕ) (cores processes k p : ℕ) (x : Stage) (at : At t cores processes k p x) where
+  -- the running process is one of the state's
+  pub runs-range : (1 ≤ p) × (p ≤ length (view t .processes))
+  runs-range =
+      let e = cores-are t cores processes k (at .card) in
+      let h = at .card .inside in
+      let work : T (valid-work (wiring (view t)) (core-of (view t) k .work)) = facts t (at .card .is-sound) .cores k (omega arith) .work in
+      is-process-range (view t) p (subst (λ (w : Work). T (valid-work (wiring (view t)) w)) (at .runs) work)
+
+  -- its stage is valid
+  pub stage-valid : T (valid-stage (wiring (view t)) p x)
+  stage-valid =
+      let progress = facts t (at .card .is-sound) .processes p (runs-range .0) (runs-range .1) .progress in
+      subst (λ (y : Progress). T (valid-progress (wiring (view t)) p y)) (at .stage) progress
+
+  -- its words are in the table
+  pub runs-process : HasProcess t cores p
+  runs-process = card-process t cores processes k (at .card) p (runs-range .0) (runs-range .1)
