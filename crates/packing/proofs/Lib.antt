@@ -9,3 +9,4 @@ pub mod Queued
 pub mod Push
 pub mod Take
 pub mod Store
+pub mod Split

@@ -91,6 +91,18 @@ module _ (s : State) (k : ℕ) (inside : k < length (s .cores)) (queued : Queued
       let count : times p (core-of s k .active) ≡ 1 + times p rest = ap (times p) e ∙ times-again p rest in
       omega arith
 
+  -- the second of the active queue, which stands in no batch
+  second-here : (p q : ℕ) (rest : List ℕ) → core-of s k .active ≡ p ∷ (q ∷ rest) → 1 ≤ times q (core-of s k .active)
+  second-here p q rest e = rw e (omega (arith, times-again q rest))
+
+  pub second-stands : (p q : ℕ) (rest : List ℕ) → core-of s k .active ≡ p ∷ (q ∷ rest) → Stands s k q
+  second-stands p q rest e =
+      stands-once q (first-among _ q rest (both-right (within 1 (length (s .processes)) p) _ (rw e at active-among)))
+      (omega (arith, second-here p q rest e))
+
+  pub second-once : (p q : ℕ) (rest : List ℕ) → core-of s k .active ≡ p ∷ (q ∷ rest) → total (times q) (core-of s k .run-queue) ≡ 0
+  second-once p q rest e = omega (arith, second-here p q rest e, second-stands p q rest e .at-most)
+
   -- the last of the active queue
   pub last-stands : 1 ≤ last (core-of s k .active) → Stands s k (last (core-of s k .active))
   last-stands low =
