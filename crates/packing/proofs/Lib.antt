@@ -10,3 +10,4 @@ pub mod Push
 pub mod Take
 pub mod Store
 pub mod Split
+pub mod Load

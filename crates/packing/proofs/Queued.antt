@@ -122,3 +122,15 @@ module _ (s : State) (k : ℕ) (inside : k < length (s .cores)) (queued : Queued
       let b : ℕ = last (heads (core-of s k .run-queue)) in
       let stands : Stands s k b = last-head-stands low in
       omega (arith, times-heads b (core-of s k .run-queue) low)
+
+  -- the first head stands in its batch and in no other
+  first-head-here : (p : ℕ) (more : List ℕ) (rest : List (List ℕ)) → core-of s k .run-queue ≡ (p ∷ more) ∷ rest
+      → 1 + total (times p) rest ≤ total (times p) (core-of s k .run-queue)
+  first-head-here p more rest e = rw e (omega (arith, times-again p more))
+
+  pub first-head-stands : (p : ℕ) (more : List ℕ) (rest : List (List ℕ)) → core-of s k .run-queue ≡ (p ∷ more) ∷ rest → Stands s k p
+  first-head-stands p more rest e =
+      stands-once p (first-among _ p (heads rest) (rw e at core-heads-among)) (omega (arith, first-head-here p more rest e))
+
+  pub first-head-once : (p : ℕ) (more : List ℕ) (rest : List (List ℕ)) → core-of s k .run-queue ≡ (p ∷ more) ∷ rest → total (times p) rest ≡ 0
+  first-head-once p more rest e = omega (arith, first-head-here p more rest e, first-head-stands p more rest e .at-most)
