@@ -11,3 +11,4 @@ pub mod Take
 pub mod Store
 pub mod Split
 pub mod Load
+pub mod QueuedStates

@@ -32,12 +32,12 @@ use Rattle.packing.proofs.Blocks.{pack-holds, length-work-words, length
 
 -- A list written out
 
-length-tabulate : (f : ℕ → ℕ) (a n : ℕ) → length (tabulate f a n) ≡ n
+pub length-tabulate : (f : ℕ → ℕ) (a n : ℕ) → length (tabulate f a n) ≡ n
 length-tabulate f a zero = refl
 length-tabulate f a (suc n) = ap suc (length-tabulate f (suc a) n)
 
 -- the i-th of a tabulated list
-getD-tabulate : (f : ℕ → ℕ) (a n i : ℕ) → i < n → getD (tabulate f a n) i 0 ≡ f (a + i)
+pub getD-tabulate : (f : ℕ → ℕ) (a n i : ℕ) → i < n → getD (tabulate f a n) i 0 ≡ f (a + i)
 getD-tabulate f a zero i h = absurd (omega arith)
 getD-tabulate f a (suc n) zero h = ap f (sym (add-zero a))
 getD-tabulate f a (suc n) (suc i) h =

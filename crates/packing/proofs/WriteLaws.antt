@@ -73,7 +73,7 @@ writes-law r s s′ j at ws h b e same turned =
 -- Lists counted from 1
 
 module _ {A : Type 0} where
-  length-set-nth : (l : List A) (p : ℕ) (a : A) → length (set-nth l p a) ≡ length l
+  pub length-set-nth : (l : List A) (p : ℕ) (a : A) → length (set-nth l p a) ≡ length l
   length-set-nth l zero a = refl
   length-set-nth l (suc i) a = length-set l i a
 
