@@ -60,10 +60,11 @@ module _ (s : State) (k : ℕ) (inside : k < length (s .cores)) (queued : Queued
   pub active-among : T (all (within 1 (length (s .processes))) (core-of s k .active))
   active-among = both-left (all (within 1 (length (s .processes))) (core-of s k .active)) _ (queued .members k inside)
 
+  pub batches-among : T (all (all (within 1 (length (s .processes)))) (core-of s k .run-queue))
+  batches-among = both-right (all (within 1 (length (s .processes))) (core-of s k .active)) _ (queued .members k inside)
+
   pub core-heads-among : T (all (within 1 (length (s .processes))) (heads (core-of s k .run-queue)))
-  core-heads-among =
-      heads-among (length (s .processes)) (core-of s k .run-queue)
-      (both-right (all (within 1 (length (s .processes))) (core-of s k .active)) _ (queued .members k inside)) (queued .batches k inside)
+  core-heads-among = heads-among (length (s .processes)) (core-of s k .run-queue) batches-among (queued .batches k inside)
 
   -- a process that stands in the core's queues stands there once
   pub stands-once : (p : ℕ) → Among (length (s .processes)) p → 1 ≤ times-in p (core-of s k) → Stands s k p

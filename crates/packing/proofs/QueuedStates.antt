@@ -4,10 +4,11 @@ use mathlib.Core.Path.{_≡_, refl, sym, ap, _∙_, subst, subst₂}
 use mathlib.Core.Bool.{Bool, true, false, _&&_}
 use mathlib.Core.List.{List, [], _∷_, _++_}
 use native.Mathlib.Omega.{arith}
-use lib.Dec.{T, eqb, leb, eqb→eq}
+use lib.Dec.{T, eqb, leb, eqb→eq, le→leb}
 use lib.ListN.{length, getD, set, length-set}
 use lib.Seq.{getD-set-same, getD-set-other}
-use Rattle.rules.specs.Lists.{within, all, total, from, times}
+use borrow.Author.Tests.{eqb-true, eqb-false}
+use Rattle.rules.specs.Lists.{within, all, total, from, bit, times}
 use Rattle.rules.specs.State.{Place, running, queued, asleep, ended, Core, queues-of, State, wiring}
 use Rattle.rules.specs.Items.{
   Kind,
@@ -39,12 +40,13 @@ use Rattle.rules.specs.Soundness.{
   valid-channel,
   valid,
 }
-use Rattle.packing.specs.Queues.{Queued}
+use Rattle.packing.specs.Queues.{with-queues, Queued}
 use Rattle.packing.proofs.Focus.{both, both-left, both-right}
 use Rattle.packing.proofs.ReadLaws.{length-tabulate, getD-tabulate}
 use Rattle.packing.proofs.WriteLaws.{length-set-nth}
-use Rattle.packing.proofs.QueueLists.{total-set}
+use Rattle.packing.proofs.QueueLists.{total-set, total-append, times-append}
 use Rattle.packing.proofs.Links.{times-in}
+use Rattle.packing.proofs.Queued.{active-among, batches-among}
 
 -- Valid states
 
@@ -134,3 +136,110 @@ queued-put alternation i v s other h = queued-same s _ refl (sym (length-set-nth
 queued-put progress i v s other h = queued-same s _ refl (sym (length-set-nth (s .processes) i _)) h
 queued-put channel-word i v s other h = queued-same s _ refl refl h
 queued-put transfers i v s other h = queued-same s _ refl refl h
+
+-- Queues
+
+all-append : {A : Type 0} (f : A → Bool) (l m : List A) → T (all f l) → T (all f m) → T (all f (l ++ m))
+all-append f [] m h g = g
+all-append f (x ∷ l) m h g = both (f x) (all f (l ++ m)) (both-left (f x) (all f l) h) (all-append f l m (both-right (f x) (all f l) h) g)
+
+all-one : {A : Type 0} (f : A → Bool) (x : A) → T (f x) → T (all f (x ∷ []))
+all-one f x h = both (f x) true h tt
+
+module _ (s : State) (k : ℕ) (inside : k < length (s .cores)) (h : Queued s) where
+  -- another core leaves the queues in order if its own are, and no process stands in them that stands elsewhere
+  pub queued-core : (c : Core) → T (all (all (within 1 (length (s .processes)))) (queues-of c)) → T (all not-empty (c .run-queue))
+      → ((p : ℕ) → 1 ≤ p → p ≤ length (s .processes) → in-queues s p + times-in p c ≤ 1 + times-in p (core-of s k)) → Queued (put core k c s)
+  unfolding in-queues
+  queued-core c members batches once =
+      record {
+        members = λ i b. each (λ x. T (all (all (within 1 (length (s .processes)))) (queues-of x))) i (bound i b) members (h .members i (bound i b));
+        batches = λ i b. each (λ x. T (all not-empty (x .run-queue))) i (bound i b) batches (h .batches i (bound i b));
+        once = λ p low high. omega (arith, total-set (times-in p) (s .cores) k c no-core inside, once p low high);
+      }
+    where
+      bound : (i : ℕ) → i < length (set (s .cores) k c) → i < length (s .cores)
+      bound i b = rw length-set at b
+
+      each : (P : Core → Type 0) (i : ℕ) → i < length (s .cores) → P c → P (core-of s i) → P (getD (set (s .cores) k c) i no-core)
+      each P i b new old = cases (eqb i k) refl
+        where
+          cases : (x : Bool) → eqb i k ≡ x → P (getD (set (s .cores) k c) i no-core)
+          cases true e = rw (eqb-true i k e) (rw (getD-set-same (s .cores) k c no-core inside) new)
+          cases false e = rw (getD-set-other (s .cores) k i c no-core (eqb-false i k e)) old
+
+  -- so it does if no process stands there more often than before
+  queued-fewer : (c : Core) → T (all (all (within 1 (length (s .processes)))) (queues-of c)) → T (all not-empty (c .run-queue))
+      → ((p : ℕ) → times-in p c ≤ times-in p (core-of s k)) → Queued (put core k c s)
+  queued-fewer c members batches fewer = queued-core c members batches (λ p low high. omega (arith, fewer p, h .once p low high))
+
+  -- a core with the same queues
+  pub queued-same-queues : (c : Core) → core-of s k .active ≡ c .active → core-of s k .run-queue ≡ c .run-queue → Queued (put core k c s)
+  queued-same-queues c e e′ =
+      queued-fewer c (subst₂ (λ a r. T (all (all (within 1 (length (s .processes)))) (a ∷ r))) e e′ (h .members k inside))
+      (rw e′ at (h .batches k inside)) (λ p. omega (arith, ap (times p) e, ap (total (times p)) e′))
+
+  pub queued-push : (q : ℕ) → 1 ≤ q → q ≤ length (s .processes) → in-queues s q ≡ 0
+      → Queued (put core k (with-queues (core-of s k .active ++ (q ∷ [])) (core-of s k .run-queue) (core-of s k)) s)
+  queued-push q low high none =
+      queued-core _ (both (all (within 1 n) (l ++ (q ∷ []))) _ (all-append (within 1 n) l (q ∷ []) (active-among s k inside h) (all-one (within 1 n) q in-range)) (batches-among s k inside h))
+      (h .batches k inside) (λ p low′ high′. omega (arith, times-append p l (q ∷ []), once p low′ high′ (eqb q p) refl))
+    where
+      n : ℕ
+      n = length (s .processes)
+
+      l : List ℕ
+      l = core-of s k .active
+
+      in-range : T (within 1 n q)
+      in-range = both (leb 1 q) (leb q n) (le→leb 1 q low) (le→leb q n high)
+
+      once : (p : ℕ) → 1 ≤ p → p ≤ n → (x : Bool) → eqb q p ≡ x → in-queues s p + bit x ≤ 1
+      once p low′ high′ true e = omega (arith, ap (in-queues s) (eqb-true q p e), none)
+      once p low′ high′ false e = omega (arith, h .once p low′ high′)
+
+  pub queued-take : (p : ℕ) (rest : List ℕ) → core-of s k .active ≡ p ∷ rest
+      → Queued (put core k (with-queues rest (core-of s k .run-queue) (core-of s k)) s)
+  queued-take p rest e =
+      queued-fewer _ (both (all (within 1 n) rest) _ (both-right (within 1 n p) _ (rw e at (active-among s k inside h))) (batches-among s k inside h))
+      (h .batches k inside) (λ i. omega (arith, ap (times i) e))
+    where
+      n : ℕ
+      n = length (s .processes)
+
+  -- the active queue becomes new batches
+  queued-stored : (new : List (List ℕ)) → T (all (all (within 1 (length (s .processes)))) new) → T (all not-empty new)
+      → ((i : ℕ) → total (times i) new ≡ times i (core-of s k .active))
+      → Queued (put core k (with-queues [] (core-of s k .run-queue ++ new) (core-of s k)) s)
+  queued-stored new among full same =
+      queued-fewer _ (all-append (all (within 1 (length (s .processes)))) r new (batches-among s k inside h) among)
+      (all-append not-empty r new (h .batches k inside) full) (λ i. omega (arith, total-append (times i) r new, same i))
+    where
+      r : List (List ℕ)
+      r = core-of s k .run-queue
+
+  pub queued-store : (p : ℕ) (rest : List ℕ) → core-of s k .active ≡ p ∷ rest
+      → Queued (put core k (with-queues [] (core-of s k .run-queue ++ ((p ∷ rest) ∷ [])) (core-of s k)) s)
+  queued-store p rest e =
+      queued-stored ((p ∷ rest) ∷ []) (all-one (all (within 1 (length (s .processes)))) (p ∷ rest) (rw e at (active-among s k inside h))) tt
+      (λ i. omega (arith, ap (times i) e))
+
+  pub queued-split : (p q : ℕ) (rest : List ℕ) → core-of s k .active ≡ p ∷ (q ∷ rest)
+      → Queued (put core k (with-queues [] (core-of s k .run-queue ++ ((p ∷ []) ∷ ((q ∷ rest) ∷ []))) (core-of s k)) s)
+  queued-split p q rest e =
+      queued-stored ((p ∷ []) ∷ ((q ∷ rest) ∷ []))
+      (both (all (within 1 n) (p ∷ [])) _ (all-one (within 1 n) p (both-left (within 1 n p) (all (within 1 n) (q ∷ rest)) among))
+       (all-one (all (within 1 n)) (q ∷ rest) (both-right (within 1 n p) (all (within 1 n) (q ∷ rest)) among)))
+      tt (λ i. omega (arith, ap (times i) e))
+    where
+      n : ℕ
+      n = length (s .processes)
+
+      among : T (all (within 1 n) (p ∷ (q ∷ rest)))
+      among = rw e at (active-among s k inside h)
+
+  pub queued-load : (batch : List ℕ) (rest : List (List ℕ)) → core-of s k .run-queue ≡ batch ∷ rest
+      → Queued (put core k (with-queues batch rest (core-of s k)) s)
+  queued-load batch rest e =
+      queued-fewer _ (rw e at (batches-among s k inside h)) (both-right (not-empty batch) _ (rw e at (h .batches k inside)))
+      (λ i. omega (arith, ap (total (times i)) e))

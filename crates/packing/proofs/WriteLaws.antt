@@ -6,11 +6,11 @@ use mathlib.Core.List.{List, [], _∷_, _++_, append-assoc}
 use native.Mathlib.Omega.{arith}
 use lib.Dec.{T, eqb, ltb, ltb→lt, lit≤}
 use lib.ListN.{length, getD, set, length-set}
-use lib.Seq.{getD-set-same, getD-set-other}
+use lib.Seq.{getD-set-same, getD-set-other, set-set}
 use borrow.Author.Tests.{eqb-true, eqb-false}
 use Rattle.rules.specs.Lists.{if_then_else_, nth, set-nth, total, follows, last}
 use Rattle.rules.specs.State.{Place, Alternation, Progress, Process, ChannelWord, Channel, Core, State}
-use Rattle.rules.specs.Items.{no-process, no-channel, core-of, process-of, channel-of, put, core, place, data-word, alternation, progress, channel-word, transfers}
+use Rattle.rules.specs.Items.{no-core, no-process, no-channel, core-of, process-of, channel-of, put, core, place, data-word, alternation, progress, channel-word, transfers}
 use Rattle.rules.specs.Packing.{
   place-number,
   word-number,
@@ -202,3 +202,15 @@ put-core s k c at ws inside b same-active same-batches turned =
       batch-size = λ p low high. head-kept s k c inside length p (ap (total (if-head length p)) same-batches);
       next-head = λ p low high. next-head-kept s k c inside p (ap (λ r. follows p (heads r)) same-batches);
     })
+
+-- the same after that core was changed already, as by a change of its queues
+pub put-core-again : (s : State) (k : ℕ) (old new : Core) (at : ℕ → ℕ) (ws : List (ℕ × ℕ)) → k < length (s .cores) → T (below 16 at ws)
+    → old .active ≡ new .active → old .run-queue ≡ new .run-queue → writes ws at (core-list old) ≡ core-list new
+    → writes ws (λ f. core-at k (at f)) (pack (put core k old s)) ≡ pack (put core k new s)
+put-core-again s k old new at ws inside b same-active same-batches turned =
+    put-core (put core k old s) k new at ws (rw (length-set (s .cores) k old) inside) b (ap (λ (c : Core). c .active) here ∙ same-active)
+    (ap (λ (c : Core). c .run-queue) here ∙ same-batches) (ap (λ (c : Core). writes ws at (core-list c)) here ∙ turned)
+    ∙ ap (λ (l : List Core). pack (record { cores = l; processes = s .processes; channels = s .channels })) (set-set (s .cores) k old new)
+  where
+    here : core-of (put core k old s) k ≡ old
+    here = getD-set-same (s .cores) k old no-core inside
