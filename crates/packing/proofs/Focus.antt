@@ -1,48 +1,21 @@
 -- A table whose words are known but for one block in focus, a list: what it holds after words of that block are written.
-use Prim.Native.Nat.{ℕ, zero, suc, _+_, _*_, _-_, _≤_, _<_}
+use Prim.Native.Nat.{ℕ, suc, _+_, _≤_, _<_}
 use mathlib.Core.Path.{_≡_, refl, sym, ap, _∙_, subst}
-use mathlib.Core.Bool.{Bool, true, false, _&&_}
+use mathlib.Core.Bool.{Bool, true, false}
 use mathlib.Core.List.{List, [], _∷_, _++_}
 use native.Mathlib.Omega.{arith}
 use native.Mathlib.Nat.{zero-add}
 use lib.Dec.{T, eqb, ltb, ltb→lt}
 use lib.ListN.{length, getD, set, length-set, length-append}
 use lib.Seq.{set-append-left}
-use borrow.Author.Tests.{eqb-true, eqb-false, lt-ltb, eq-eqb, ne-eqb}
+use borrow.Author.Tests.{eqb-true, eqb-false, lt-ltb, ne-eqb}
 use Rattle.rules.specs.Lists.{if_then_else_, all}
 use Rattle.rules.specs.SetUp.{room}
 use Rattle.rules.specs.State.{State}
 use Rattle.rules.specs.Packing.{header-words, pack, core-at, process-at, channel-at}
+use Rattle.packing.proofs.Tests.{same-test, apart, in-block, both-left, both-right}
 use Rattle.packing.proofs.Regions.{Dims, Words, Holds, Same, getD-set, holds-set, held-once, written}
 use Rattle.packing.proofs.Blocks.{dims, words-of, pack-holds}
-
--- Tests
-
--- what holds in both cases of a test
-pub by-test : {A : Type 0} (b : Bool) {x y z : A} → (b ≡ true → x ≡ z) → (b ≡ false → y ≡ z) → (if b then x else y) ≡ z
-by-test true yes′ no′ = yes′ refl
-by-test false yes′ no′ = no′ refl
-
--- two tests for equality that hold together
-pub same-test : (a b c d : ℕ) → (a ≡ b → c ≡ d) → (c ≡ d → a ≡ b) → eqb a b ≡ eqb c d
-same-test a b c d there back = cases (eqb a b) refl
-  where
-    cases : (x : Bool) → eqb a b ≡ x → x ≡ eqb c d
-    cases true e = sym (eq-eqb c d (there (eqb-true a b e)))
-    cases false e = sym (ne-eqb c d (λ q. eqb-false a b e (back q)))
-
--- a conjunction of tests and its two parts
-pub both-left : (a b : Bool) → T (a && b) → T a
-both-left true b h = tt
-both-left false b h = h
-
-pub both-right : (a b : Bool) → T (a && b) → T b
-both-right true b h = h
-both-right false b h = absurd h
-
-pub both : (a b : Bool) → T a → T b → T (a && b)
-both true b h g = g
-both false b h g = h
 
 -- Several writes
 
@@ -134,11 +107,6 @@ holds-same d v w t e h =
       channel = λ c f l b b′. h .channel c f l b b′ ∙ e .channel c f l b b′;
     }
 
--- a block's words are those of W where its list is, and elsewhere
-pub in-block : (j i x y : ℕ) (W : ℕ → ℕ) → (i ≡ j → x ≡ W j) → ((i ≡ j → ⊥) → y ≡ W i) → (if eqb i j then x else y) ≡ W i
-in-block j i x y W here others =
-    by-test (eqb i j) (λ q. here (eqb-true i j q) ∙ ap W (sym (eqb-true i j q))) (λ q. others (eqb-false i j q))
-
 -- a word written at the address of place g of block j: an address b of place f of block i is that one only if i is j and f is g
 block-set : (j g v : ℕ) (l : List ℕ) (W : ℕ → ℕ → ℕ) (i f a b : ℕ) → g < length l → (a ≡ b → i ≡ j) → (a ≡ b → f ≡ g) → (i ≡ j → f ≡ g → a ≡ b)
     → (if eqb a b then v else block j l W i f) ≡ block j (set l g v) W i f
@@ -149,10 +117,6 @@ block-set j g v l W i f a b inside number place back = cases (eqb i j) refl
     cases true e =
         ap (λ (x : Bool). if x then v else getD l f 0) (same-test a b f g place (back (eqb-true i j e))) ∙ sym (getD-set l g v f (getD l f 0) inside refl)
     cases false e = ap (λ (x : Bool). if x then v else W i f) (ne-eqb a b (λ q. eqb-false i j e (number q)))
-
--- a word at another address is kept
-pub apart : (a b v x : ℕ) → (a ≡ b → ⊥) → (if eqb a b then v else x) ≡ x
-apart a b v x ne = rw (ne-eqb a b ne)
 
 module _ (d : Dims) (w : Words) (j f v : ℕ) (l : List ℕ) (inside : f < length l) where
   -- one word of the block in focus is written, and no other

@@ -1,14 +1,15 @@
 pub mod Regions
 pub mod Blocks
+pub mod Tests
 pub mod ReadLaws
 pub mod Focus
 pub mod QueueLists
 pub mod Links
 pub mod WriteLaws
+pub mod Standing
 pub mod Queued
 pub mod Push
 pub mod Take
 pub mod Store
 pub mod Split
 pub mod Load
-pub mod QueuedStates

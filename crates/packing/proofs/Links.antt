@@ -1,55 +1,26 @@
 -- A packing while a core's words and the links of processes are written: what it holds, and when it is the packing of the state with
 -- another core. Each link is a sum over the cores, so another core changes it by that core's share alone.
-use Prim.Native.Nat.{ℕ, zero, suc, _+_, _*_, _-_, _≤_, _<_}
+use Prim.Native.Nat.{ℕ, zero, suc, _+_, _-_, _≤_, _<_}
 use mathlib.Core.Path.{_≡_, refl, sym, ap, _∙_}
 use mathlib.Core.Bool.{Bool, true, false, _&&_}
 use mathlib.Core.List.{List, [], _∷_, _++_}
 use native.Mathlib.Omega.{arith}
 use lib.Dec.{T, eqb, ltb, leb, leb→le, ltb→lt}
-use lib.ListN.{length, getD, set, length-set, length-append}
+use lib.ListN.{length, getD, set, length-set}
 use lib.Seq.{getD-set-same, getD-set-other, set-getD}
 use borrow.Author.Tests.{eqb-true, eqb-false, ltb-true, ltb-false}
 use Rattle.rules.specs.Lists.{if_then_else_, total, bit, times, first, last, follows}
 use Rattle.rules.specs.State.{Core, queues-of, State}
 use Rattle.rules.specs.Items.{core-of, process-of, no-core, put, core}
 use Rattle.rules.specs.SetUp.{room}
-use Rattle.rules.specs.Packing.{
-  heads,
-  if-head,
-  next-link,
-  head-link,
-  batch-link,
-  core-words,
-  process-words,
-  channel-words,
-  work-words,
-  pack,
-  core-at,
-  process-at,
-  channel-at,
-}
+use Rattle.rules.specs.Packing.{heads, if-head, next-link, head-link, batch-link, core-words, process-words, work-words, pack, core-at, process-at, channel-at}
 use Rattle.rules.specs.Soundness.{in-queues}
 use Rattle.packing.specs.Queues.{link-end, with-queues}
-use Rattle.packing.proofs.Regions.{Dims, Words, Holds, Same, holds-set, written}
+use Rattle.packing.proofs.Regions.{Dims, Words, Holds, holds-set, written}
 use Rattle.packing.proofs.Blocks.{dims, words-of, pack-holds, length-progress-words, first-part, second-part}
 use Rattle.packing.proofs.ReadLaws.{own-words, link-words, process-split, listed, core-list, core-listed}
-use Rattle.packing.proofs.Focus.{
-  by-test,
-  same-test,
-  both-left,
-  both-right,
-  writes,
-  below,
-  cores,
-  focus,
-  focus-set,
-  focus-start,
-  holds-same,
-  apart,
-  in-block,
-  packed,
-  same-header,
-}
+use Rattle.packing.proofs.Tests.{by-test, same-test, apart, in-block, both-left, both-right}
+use Rattle.packing.proofs.Focus.{writes, below, cores, focus, focus-set, focus-start, holds-same, packed, same-header}
 use Rattle.packing.proofs.QueueLists.{total-set, total-alone, no-next, no-head, no-next-head}
 
 -- Links as words 20 to 23 of processes
@@ -121,15 +92,15 @@ module _ (s : State) (k : ℕ) (inside : k < length (s .cores)) where
       record {
         size = refl;
         held =
-          holds-same (dims s) (focus cores k (core-list (core-of s k)) (words-of s)) _ (pack s)
-          (record {
-            header = λ f b. refl;
-            core = λ i f b b′. refl;
-            process = λ p f low b b′. sym (by-test (ltb f 20) (λ e. refl) (λ e. sym (link-word s p f (ltb-false f 20 e))));
-            channel = λ i f low b b′. refl;
-          })
-          (focus-start cores (dims s) (words-of s) k (core-list (core-of s k)) (pack s)
-           (λ f. ap (λ (l : List ℕ). getD l f 0) (core-listed (core-of s k))) (pack-holds s));
+            holds-same (dims s) (focus cores k (core-list (core-of s k)) (words-of s)) _ (pack s)
+            (record {
+              header = λ f b. refl;
+              core = λ i f b b′. refl;
+              process = λ p f low b b′. sym (by-test (ltb f 20) (λ e. refl) (λ e. sym (link-word s p f (ltb-false f 20 e))));
+              channel = λ i f low b b′. refl;
+            })
+            (focus-start cores (dims s) (words-of s) k (core-list (core-of s k)) (pack s)
+            (λ f. ap (λ (l : List ℕ). getD l f 0) (core-listed (core-of s k))) (pack-holds s));
       }
 
   module _ {l : List ℕ} {L : ℕ → ℕ → ℕ} {t : List ℕ} where
@@ -149,7 +120,7 @@ module _ (s : State) (k : ℕ) (inside : k < length (s .cores)) where
         record {
           size = h .size;
           held =
-            link-set (dims s) (focus cores k l (words-of s)) L p f v t low high (leb→le 20 f (both-left (leb 20 f) (ltb f 24) b)) (ltb→lt f 24 (both-right (leb 20 f) (ltb f 24) b)) (h .held);
+              link-set (dims s) (focus cores k l (words-of s)) L p f v t low high (leb→le 20 f (both-left (leb 20 f) (ltb f 24) b)) (ltb→lt f 24 (both-right (leb 20 f) (ltb f 24) b)) (h .held);
         }
 
   -- there is no process 0 whose link could be written
@@ -158,15 +129,15 @@ module _ (s : State) (k : ℕ) (inside : k < length (s .cores)) where
       record {
         size = h .size;
         held =
-          holds-same (dims s) (with-links L (focus cores k l (words-of s))) _ t
-          (record {
-            header = λ g b. refl;
-            core = λ i g b b′. refl;
-            process = λ i g low b b′.
-              ap (λ n. if ltb g 20 then words-of s .process i g else n) (sym (by-test (eqb g f) (λ e. apart i 0 v (L g i) (λ z. omega arith)) (λ e. refl)));
-            channel = λ i g low b b′. refl;
-          })
-          (h .held);
+            holds-same (dims s) (with-links L (focus cores k l (words-of s))) _ t
+            (record {
+              header = λ g b. refl;
+              core = λ i g b b′. refl;
+              process = λ i g low b b′.
+                  ap (λ n. if ltb g 20 then words-of s .process i g else n) (sym (by-test (eqb g f) (λ e. apart i 0 v (L g i) (λ z. omega arith)) (λ e. refl)));
+              channel = λ i g low b b′. refl;
+            })
+            (h .held);
       }
 
   -- process p is linked behind the last one, or first where there is none
@@ -177,7 +148,7 @@ module _ (s : State) (k : ℕ) (inside : k < length (s .cores)) where
     where
       cases : (x : Bool) → eqb b 0 ≡ x
           → Held s k (set l f (if x then p else getD l f 0)) (write-link g b p L)
-            (if x then set t (core-at k f) p else set t (process-at (length (s .cores)) b g) p)
+          (if x then set t (core-at k f) p else set t (process-at (length (s .cores)) b g) p)
       cases true e = rw (eqb-true b 0 e) (held-core f p hf (held-nobody g p h))
       cases false e = rw (set-getD l f 0) (held-link g b p hg (omega (arith, eqb-false b 0 e)) high h)
 
@@ -211,7 +182,7 @@ held-last s k c l L t inside h e linked =
     (record {
       header = λ f b. ap (λ (l : List ℕ). getD l f 0) (same-header s s′ same-dims);
       core = λ i f b b′. in-block k i _ _ (λ x. getD (core-words (core-of s′ x)) f 0) (λ q. ap (λ (l : List ℕ). getD l f 0) here)
-        (λ ne. ap (λ (x : Core). getD (core-words x) f 0) (sym (getD-set-other (s .cores) k i c no-core ne)));
+          (λ ne. ap (λ (x : Core). getD (core-words x) f 0) (sym (getD-set-other (s .cores) k i c no-core ne)));
       process = λ p f low b b′. by-test (ltb f 20) (λ q. own-word s p f (ltb-true f 20 q) ∙ sym (own-word s′ p f (ltb-true f 20 q))) (λ q. link p f low b b′ (ltb-false f 20 q));
       channel = λ i f low b b′. refl;
     })

@@ -1,5 +1,5 @@
 -- Load: the first batch of a core's run queue becomes its active queue, which was empty.
-use Prim.Native.Nat.{ℕ, zero, suc, _+_, _*_, _-_, _≤_, _<_}
+use Prim.Native.Nat.{ℕ, _<_}
 use mathlib.Core.Path.{_≡_, refl, sym, ap, _∙_}
 use mathlib.Core.List.{List, [], _∷_}
 use native.Mathlib.Omega.{arith}
@@ -11,23 +11,10 @@ use Rattle.rules.specs.Items.{core-of, put, core}
 use Rattle.rules.specs.Packing.{heads, if-head, word-at, process-at, core-at, head-link, batch-link, pack}
 use Rattle.packing.specs.Queues.{load-writes, load-table, with-queues, Queued}
 use Rattle.packing.proofs.ReadLaws.{read-core, read-process}
-use Rattle.packing.proofs.Focus.{in-block, both-right}
+use Rattle.packing.proofs.Tests.{in-block, both-right}
 use Rattle.packing.proofs.QueueLists.{follows-first, follows-rest, if-head-first, if-head-other, no-head, no-next-head}
-use Rattle.packing.proofs.Links.{
-  held-first,
-  held-core,
-  held-link,
-  held-last,
-  queue-entries,
-  head-in,
-  Stands,
-  next-kept,
-  head-kept,
-  next-head-kept,
-  head-alone,
-  next-head-alone,
-}
-use Rattle.packing.proofs.Queued.{core-heads-among, last-rest, first-head-stands, first-head-once}
+use Rattle.packing.proofs.Links.{held-first, held-core, held-link, held-last, queue-entries, Stands, next-kept, head-kept, next-head-kept, head-alone, next-head-alone}
+use Rattle.packing.proofs.Standing.{core-heads-among, last-rest, first-head-stands, first-head-once}
 
 -- a batch with a first process p
 module _ (s : State) (k p : ℕ) (more : List ℕ) (rest : List (List ℕ)) (inside : k < length (s .cores)) (queued : Queued s)
@@ -38,19 +25,19 @@ module _ (s : State) (k p : ℕ) (more : List ℕ) (rest : List (List ℕ)) (ins
       (read-core s k 8 inside (lit< tt) ∙ ap (λ r. first (heads r)) e′)
       ∙ (λ i. load-writes p (last-read i) (size-read i) (next-head-read i) ((read-core s k 9 inside (lit< tt) ∙ ap (λ r. last (heads r)) e′) i) t K k)
       ∙ held-last s k c′ _ _ _ inside
-        (held-link s k inside 23 p 0 tt (stands .low) (stands .high) (held-link s k inside 22 p 0 tt (stands .low) (stands .high)
-         (held-link s k inside 21 p 0 tt (stands .low) (stands .high) (held-core s k inside 9 _ tt (held-core s k inside 8 _ tt
-         (held-core s k inside 5 _ tt (held-core s k inside 4 _ tt (held-core s k inside 3 p tt (held-first s k inside)))))))))
-        (queue-entries c (p ∷ more) rest refl refl refl refl (last-rest _ p (heads rest) among))
-        (record {
-          next = λ i low high. next-kept s k c′ inside i (omega (arith, ap (follows i) e, ap (total (follows i)) e′));
-          batch-last = λ i low high. head-moved last i;
-          batch-size = λ i low high. head-moved length i;
-          next-head = λ i low high.
+      (held-link s k inside 23 p 0 tt (stands .low) (stands .high) (held-link s k inside 22 p 0 tt (stands .low) (stands .high)
+      (held-link s k inside 21 p 0 tt (stands .low) (stands .high) (held-core s k inside 9 _ tt (held-core s k inside 8 _ tt
+      (held-core s k inside 5 _ tt (held-core s k inside 4 _ tt (held-core s k inside 3 p tt (held-first s k inside)))))))))
+      (queue-entries c (p ∷ more) rest refl refl refl refl (last-rest _ p (heads rest) among))
+      (record {
+        next = λ i low high. next-kept s k c′ inside i (omega (arith, ap (follows i) e, ap (total (follows i)) e′));
+        batch-last = λ i low high. head-moved last i;
+        batch-size = λ i low high. head-moved length i;
+        next-head = λ i low high.
             in-block p i 0 _ (λ i. batch-link (put core k c′ s) i)
             (λ z. sym (next-head-alone s k c′ inside p stands ∙ no-next-head p rest (stands .low) none))
             (λ ne. next-head-kept s k c′ inside i (ap (λ r. follows i (heads r)) e′ ∙ follows-rest i p (heads rest) ne));
-        })
+      })
     where
       K : ℕ
       K = length (s .cores)

@@ -1,34 +1,20 @@
 -- Push: a process is put at the end of a core's active queue.
-use Prim.Native.Nat.{ℕ, zero, suc, _+_, _*_, _-_, _≤_, _<_}
+use Prim.Native.Nat.{ℕ, _+_, _≤_, _<_}
 use mathlib.Core.Path.{_≡_, refl, sym, ap, _∙_, ap₂}
-use mathlib.Core.Bool.{Bool, true, false, _&&_}
 use mathlib.Core.List.{List, [], _∷_, _++_}
 use native.Mathlib.Omega.{arith}
-use lib.Dec.{T, eqb, lit<}
+use lib.Dec.{T, lit<}
 use lib.ListN.{length, length-append}
-use borrow.Author.Tests.{ne-eqb}
-use Rattle.rules.specs.Lists.{within, all, total, times, first, last, follows}
+use Rattle.rules.specs.Lists.{within, all, total, times, last, follows}
 use Rattle.rules.specs.State.{Core, State}
 use Rattle.rules.specs.Items.{core-of, put, core}
-use Rattle.rules.specs.Packing.{next-link, head-link, batch-link, pack}
+use Rattle.rules.specs.Packing.{next-link, pack}
 use Rattle.packing.specs.Queues.{push-writes, push-table, with-queues, Queued}
-use Rattle.packing.proofs.ReadLaws.{read-core, core-list}
-use Rattle.packing.proofs.Focus.{in-block}
+use Rattle.packing.proofs.ReadLaws.{read-core}
+use Rattle.packing.proofs.Tests.{in-block}
 use Rattle.packing.proofs.QueueLists.{follows-more, follows-last, last-append, times-last, no-next}
-use Rattle.packing.proofs.Links.{
-  queue-entries,
-  held-first,
-  held-core,
-  held-end,
-  held-last,
-  Stands,
-  next-in,
-  next-kept,
-  head-kept,
-  next-head-kept,
-  next-alone,
-}
-use Rattle.packing.proofs.Queued.{active-among, last-bound, first-more, last-stands}
+use Rattle.packing.proofs.Links.{queue-entries, held-first, held-core, held-end, held-last, Stands, next-kept, head-kept, next-head-kept, next-alone}
+use Rattle.packing.proofs.Standing.{active-among, last-bound, first-more, last-stands}
 
 pub push-law : (s : State) (k q : ℕ) → k < length (s .cores) → Queued s
     → push-table (pack s) (length (s .cores)) k q
@@ -36,15 +22,15 @@ pub push-law : (s : State) (k q : ℕ) → k < length (s .cores) → Queued s
 push-law s k q inside queued =
     ap₂ (λ l n. push-writes l n (pack s) (length (s .cores)) k q) (read-core s k 4 inside (lit< tt)) (read-core s k 5 inside (lit< tt))
     ∙ held-last s k c′ _ _ _ inside
-      (held-core s k inside 5 (length l + 1) tt (held-core s k inside 4 q tt (held-end s k inside 3 20 a q tt tt bound (held-first s k inside))))
-      (queue-entries c (l ++ (q ∷ [])) r (first-more _ q l [] among) (sym (last-append l q [])) (sym (length-append l (q ∷ []))) refl refl)
-      (record {
-        next = λ p low high. in-block a p q _ (λ p. next-link (put core k c′ s) p) (λ e. sym (linked (omega arith)))
+    (held-core s k inside 5 (length l + 1) tt (held-core s k inside 4 q tt (held-end s k inside 3 20 a q tt tt bound (held-first s k inside))))
+    (queue-entries c (l ++ (q ∷ [])) r (first-more _ q l [] among) (sym (last-append l q [])) (sym (length-append l (q ∷ []))) refl refl)
+    (record {
+      next = λ p low high. in-block a p q _ (λ p. next-link (put core k c′ s) p) (λ e. sym (linked (omega arith)))
           (λ ne. next-kept s k c′ inside p (ap (λ n. n + total (follows p) r) (sym (follows-more p q l ne))));
-        batch-last = λ p low high. head-kept s k c′ inside last p refl;
-        batch-size = λ p low high. head-kept s k c′ inside length p refl;
-        next-head = λ p low high. next-head-kept s k c′ inside p refl;
-      })
+      batch-last = λ p low high. head-kept s k c′ inside last p refl;
+      batch-size = λ p low high. head-kept s k c′ inside length p refl;
+      next-head = λ p low high. next-head-kept s k c′ inside p refl;
+    })
   where
     c : Core
     c = core-of s k

@@ -1,5 +1,5 @@
 -- Read laws: what code reads at an address of a packing, as an entry of an explicit list. At a literal place the entry computes.
-use Prim.Native.Nat.{ℕ, zero, suc, _+_, _*_, _-_, _≤_, _<_}
+use Prim.Native.Nat.{ℕ, zero, suc, _+_, _≤_, _<_}
 use mathlib.Core.Path.{_≡_, refl, sym, ap, _∙_}
 use mathlib.Core.List.{List, [], _∷_, _++_}
 use native.Mathlib.Omega.{arith}
@@ -9,25 +9,7 @@ use lib.Seq.{ext-getD}
 use Rattle.rules.specs.Lists.{tabulate, bit, first, last}
 use Rattle.rules.specs.State.{Alternation, Process, Core, Channel, State}
 use Rattle.rules.specs.Items.{core-of, process-of, channel-of}
-use Rattle.rules.specs.Packing.{
-  place-number,
-  word-number,
-  work-words,
-  heads,
-  core-words,
-  progress-words,
-  next-link,
-  head-link,
-  batch-link,
-  process-words,
-  channel-words,
-  header-words,
-  pack,
-  core-at,
-  process-at,
-  channel-at,
-}
-use Rattle.packing.proofs.Regions.{Holds}
+use Rattle.rules.specs.Packing.{place-number, word-number, work-words, heads, core-words, progress-words, next-link, head-link, batch-link, process-words, channel-words, header-words, pack, core-at, process-at, channel-at}
 use Rattle.packing.proofs.Blocks.{pack-holds, length-work-words, length-progress-words, first-part, second-part}
 
 -- A list written out
@@ -96,7 +78,7 @@ process-listed s p =
     let r = process-of s p in
     process-split s p
     ∙ ap (λ (l : List ℕ). place-number (r .place) ∷ r .data-word ∷ alternation-words (r .alternation) ++ l ++ link-words s p)
-      (listed-same (progress-words (r .progress)) 14 (length-progress-words (r .progress)))
+    (listed-same (progress-words (r .progress)) 14 (length-progress-words (r .progress)))
 
 -- a channel's 4
 abbrev pub channel-list : Channel → List ℕ

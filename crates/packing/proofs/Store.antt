@@ -1,63 +1,35 @@
 -- Store: a core's active queue becomes the last batch of its run queue.
-use Prim.Native.Nat.{ℕ, zero, suc, _+_, _*_, _-_, _≤_, _<_}
-use mathlib.Core.Path.{_≡_, refl, sym, ap, _∙_, ap₂}
-use mathlib.Core.Bool.{Bool, true, false, _&&_}
+use Prim.Native.Nat.{ℕ, _≤_, _<_}
+use mathlib.Core.Path.{_≡_, refl, sym, ap, _∙_}
 use mathlib.Core.List.{List, [], _∷_, _++_}
 use native.Mathlib.Omega.{arith}
 use lib.Dec.{T, eqb, lit<}
-use lib.ListN.{length, length-append}
-use Rattle.rules.specs.Lists.{if_then_else_, within, all, total, times, first, last, follows}
+use lib.ListN.{length}
+use Rattle.rules.specs.Lists.{if_then_else_, within, all, first, last, follows}
 use Rattle.rules.specs.State.{Core, State}
 use Rattle.rules.specs.Items.{core-of, put, core}
-use Rattle.rules.specs.Packing.{heads, if-head, word-at, process-at, core-at, next-link, head-link, batch-link, pack}
+use Rattle.rules.specs.Packing.{heads, if-head, head-link, batch-link, pack}
 use Rattle.packing.specs.Queues.{store-heads, store-writes, store-table, with-queues, Queued}
 use Rattle.packing.proofs.ReadLaws.{read-core, core-list}
-use Rattle.packing.proofs.Focus.{in-block}
-use Rattle.packing.proofs.QueueLists.{
-  total-append,
-  times-last,
-  times-heads,
-  follows-more,
-  follows-last,
-  last-append,
-  heads-append,
-  if-head-first,
-  if-head-other,
-  no-head,
-}
-use Rattle.packing.proofs.Links.{
-  write-link,
-  Held,
-  held-first,
-  held-core,
-  held-link,
-  held-end,
-  Linked,
-  held-last,
-  queue-entries,
-  Stands,
-  next-kept,
-  head-kept,
-  next-head-kept,
-  head-alone,
-  next-head-alone,
-}
-use Rattle.packing.proofs.Queued.{first-stands, first-once, last-head-stands, last-head-once, core-heads-among, last-bound, first-more}
+use Rattle.packing.proofs.Tests.{in-block}
+use Rattle.packing.proofs.QueueLists.{total-append, follows-more, follows-last, last-append, heads-append, if-head-first, if-head-other, no-head}
+use Rattle.packing.proofs.Links.{write-link, Held, held-first, held-core, held-link, held-end, Linked, held-last, queue-entries, Stands, next-kept, head-kept, next-head-kept, head-alone, next-head-alone}
+use Rattle.packing.proofs.Standing.{first-stands, first-once, last-head-stands, last-head-once, core-heads-among, last-bound, first-more}
 
 -- Once the links of new batches are written, the first of them with the head p, the writes of a store put them at the end of the run queue.
 pub stored : (s : State) (k p : ℕ) (l : List ℕ) (more : List (List ℕ)) (L : ℕ → ℕ → ℕ) (t : List ℕ) → k < length (s .cores) → Queued s
     → Held s k (core-list (core-of s k)) L t
     → Linked (length (s .processes)) (write-link 23 (last (heads (core-of s k .run-queue))) p L)
-      (put core k (with-queues [] (core-of s k .run-queue ++ ((p ∷ l) ∷ more)) (core-of s k)) s)
+    (put core k (with-queues [] (core-of s k .run-queue ++ ((p ∷ l) ∷ more)) (core-of s k)) s)
     → store-heads p (last (p ∷ heads more)) (last (heads (core-of s k .run-queue))) t (length (s .cores)) k
     ≡ pack (put core k (with-queues [] (core-of s k .run-queue ++ ((p ∷ l) ∷ more)) (core-of s k)) s)
 stored s k p l more L t inside queued held linked =
     held-last s k _ _ _ _ inside
     (held-core s k inside 5 0 tt (held-core s k inside 4 0 tt (held-core s k inside 3 0 tt
-     (held-core s k inside 9 _ tt (held-end s k inside 8 23 b p tt tt (last-bound _ (heads r) among) held)))))
+    (held-core s k inside 9 _ tt (held-end s k inside 8 23 b p tt tt (last-bound _ (heads r) among) held)))))
     (queue-entries (core-of s k) [] (r ++ ((p ∷ l) ∷ more)) refl refl refl
-     (first-more _ p (heads r) (heads more) among ∙ ap first (sym (heads-append r ((p ∷ l) ∷ more))))
-     (sym (ap last (heads-append r ((p ∷ l) ∷ more)) ∙ last-append (heads r) p (heads more))))
+    (first-more _ p (heads r) (heads more) among ∙ ap first (sym (heads-append r ((p ∷ l) ∷ more))))
+    (sym (ap last (heads-append r ((p ∷ l) ∷ more)) ∙ last-append (heads r) p (heads more))))
     linked
   where
     r : List (List ℕ)
@@ -74,18 +46,18 @@ module _ (s : State) (k p : ℕ) (rest : List ℕ) (inside : k < length (s .core
       ≡ pack (put core k (with-queues [] (core-of s k .run-queue ++ ((p ∷ rest) ∷ [])) (core-of s k)) s)
   store-law =
       (λ i. store-writes ((read-core s k 3 inside (lit< tt) ∙ ap first e) i) ((read-core s k 4 inside (lit< tt) ∙ ap last e) i)
-        ((read-core s k 5 inside (lit< tt) ∙ ap length e) i) (read-core s k 9 inside (lit< tt) i) (pack s) (length (s .cores)) k)
+      ((read-core s k 5 inside (lit< tt) ∙ ap length e) i) (read-core s k 9 inside (lit< tt) i) (pack s) (length (s .cores)) k)
       ∙ stored s k p rest [] _ _ inside queued
-        (held-link s k inside 22 p (length (p ∷ rest)) tt (stands .low) (stands .high)
-         (held-link s k inside 21 p (last (p ∷ rest)) tt (stands .low) (stands .high) (held-first s k inside)))
-        (record {
-          next = λ i low high. next-kept s k c′ inside i (omega (arith, ap (follows i) e, total-append (follows i) r ((p ∷ rest) ∷ [])));
-          batch-last = λ i low high. head-moved last i;
-          batch-size = λ i low high. head-moved length i;
-          next-head = λ i low high. 
+      (held-link s k inside 22 p (length (p ∷ rest)) tt (stands .low) (stands .high)
+      (held-link s k inside 21 p (last (p ∷ rest)) tt (stands .low) (stands .high) (held-first s k inside)))
+      (record {
+        next = λ i low high. next-kept s k c′ inside i (omega (arith, ap (follows i) e, total-append (follows i) r ((p ∷ rest) ∷ [])));
+        batch-last = λ i low high. head-moved last i;
+        batch-size = λ i low high. head-moved length i;
+        next-head = λ i low high.
             in-block b i p _ (λ i. batch-link (put core k c′ s) i) (λ q. sym (linked (omega arith)))
             (λ ne. next-head-kept s k c′ inside i (sym (ap (follows i) (heads-append r ((p ∷ rest) ∷ [])) ∙ follows-more i p (heads r) ne)));
-        })
+      })
     where
       c : Core
       c = core-of s k
@@ -107,8 +79,12 @@ module _ (s : State) (k p : ℕ) (rest : List ℕ) (inside : k < length (s .core
       head-moved f i =
           in-block p i _ _ (λ i. head-link f (put core k c′ s) i)
           (λ q. sym (head-alone s k c′ inside p stands f
-            ∙ omega (arith, total-append (if-head f p) r ((p ∷ rest) ∷ []), if-head-first f p rest,
-              no-head f p r (stands .low) (first-once s k inside queued p rest e .1))))
+          ∙ omega (
+            arith,
+            total-append (if-head f p) r ((p ∷ rest) ∷ []),
+            if-head-first f p rest,
+            no-head f p r (stands .low) (first-once s k inside queued p rest e .1),
+          )))
           (λ ne. head-kept s k c′ inside f i (omega (arith, total-append (if-head f i) r ((p ∷ rest) ∷ []), if-head-other f i p rest ne)))
 
       -- behind the last head stands the new one

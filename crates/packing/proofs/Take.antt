@@ -1,34 +1,20 @@
 -- Take: the first process is taken off a core's active queue.
-use Prim.Native.Nat.{ℕ, zero, suc, _+_, _*_, _-_, _≤_, _<_}
-use mathlib.Core.Path.{_≡_, refl, sym, ap, _∙_, ap₂}
-use mathlib.Core.Bool.{Bool, true, false, _&&_}
-use mathlib.Core.List.{List, [], _∷_, _++_}
+use Prim.Native.Nat.{ℕ, _+_, _<_}
+use mathlib.Core.Path.{_≡_, refl, sym, ap, _∙_}
+use mathlib.Core.List.{List, _∷_}
 use native.Mathlib.Omega.{arith}
-use lib.Dec.{T, eqb, lit<}
-use lib.ListN.{length, length-append}
-use borrow.Author.Tests.{ne-eqb}
-use Rattle.rules.specs.Lists.{within, all, total, times, first, last, follows}
+use lib.Dec.{T, lit<}
+use lib.ListN.{length}
+use Rattle.rules.specs.Lists.{within, all, total, first, last, follows}
 use Rattle.rules.specs.State.{Core, State}
 use Rattle.rules.specs.Items.{core-of, put, core}
 use Rattle.rules.specs.Packing.{word-at, process-at, core-at, next-link, pack}
 use Rattle.packing.specs.Queues.{take-writes, take-table, with-queues, Queued}
-use Rattle.packing.proofs.ReadLaws.{read-core, read-process, core-list}
-use Rattle.packing.proofs.Focus.{in-block, both-right}
+use Rattle.packing.proofs.ReadLaws.{read-core, read-process}
+use Rattle.packing.proofs.Tests.{in-block, both-right}
 use Rattle.packing.proofs.QueueLists.{follows-none, follows-first, follows-rest, no-next}
-use Rattle.packing.proofs.Links.{
-  held-first,
-  held-core,
-  held-link,
-  held-last,
-  queue-entries,
-  next-in,
-  Stands,
-  next-kept,
-  head-kept,
-  next-head-kept,
-  next-alone,
-}
-use Rattle.packing.proofs.Queued.{first-stands, first-once, active-among, last-rest}
+use Rattle.packing.proofs.Links.{held-first, held-core, held-link, held-last, queue-entries, next-in, Stands, next-kept, head-kept, next-head-kept, next-alone}
+use Rattle.packing.proofs.Standing.{first-stands, first-once, active-among, last-rest}
 
 module _ (s : State) (k p : ℕ) (rest : List ℕ) (inside : k < length (s .cores)) (queued : Queued s) (e : core-of s k .active ≡ p ∷ rest) where
   -- who is next in the table is next in the queue
@@ -46,16 +32,16 @@ module _ (s : State) (k p : ℕ) (rest : List ℕ) (inside : k < length (s .core
       ap (λ x. take-writes x (word-at t (process-at K x 20)) (word-at t (core-at k 4)) (word-at t (core-at k 5)) t K k) (read-core s k 3 inside (lit< tt) ∙ ap first e)
       ∙ (λ i. take-writes p (next-read i) ((read-core s k 4 inside (lit< tt) ∙ ap last e) i) ((read-core s k 5 inside (lit< tt) ∙ ap length e) i) t K k)
       ∙ held-last s k c′ _ _ _ inside
-        (held-link s k inside 20 p 0 tt (stands .low) (stands .high)
-          (held-core s k inside 5 _ tt (held-core s k inside 4 _ tt (held-core s k inside 3 (first rest) tt (held-first s k inside)))))
-        (queue-entries c rest r refl (last-rest _ p rest among) (omega arith) refl refl)
-        (record {
-          next = λ i low high. in-block p i 0 _ (λ i. next-link (put core k c′ s) i) (λ q. sym (next-alone s k c′ inside p stands ∙ unlinked))
+      (held-link s k inside 20 p 0 tt (stands .low) (stands .high)
+      (held-core s k inside 5 _ tt (held-core s k inside 4 _ tt (held-core s k inside 3 (first rest) tt (held-first s k inside)))))
+      (queue-entries c rest r refl (last-rest _ p rest among) (omega arith) refl refl)
+      (record {
+        next = λ i low high. in-block p i 0 _ (λ i. next-link (put core k c′ s) i) (λ q. sym (next-alone s k c′ inside p stands ∙ unlinked))
             (λ ne. next-kept s k c′ inside i (ap (λ n. n + total (follows i) r) (ap (follows i) e ∙ follows-rest i p rest ne)));
-          batch-last = λ i low high. head-kept s k c′ inside last i refl;
-          batch-size = λ i low high. head-kept s k c′ inside length i refl;
-          next-head = λ i low high. next-head-kept s k c′ inside i refl;
-        })
+        batch-last = λ i low high. head-kept s k c′ inside last i refl;
+        batch-size = λ i low high. head-kept s k c′ inside length i refl;
+        next-head = λ i low high. next-head-kept s k c′ inside i refl;
+      })
     where
       K : ℕ
       K = length (s .cores)

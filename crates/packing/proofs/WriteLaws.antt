@@ -1,47 +1,21 @@
 -- Write laws: writes into one block of a packing give the packing of the state with another item.
-use Prim.Native.Nat.{ℕ, zero, suc, _+_, _*_, _-_, _≤_, _<_}
+use Prim.Native.Nat.{ℕ, zero, suc, _+_, _≤_, _<_}
 use mathlib.Core.Path.{_≡_, refl, sym, ap, _∙_, ap₂}
-use mathlib.Core.Bool.{Bool, true, false, _&&_}
-use mathlib.Core.List.{List, [], _∷_, _++_, append-assoc}
+use mathlib.Core.List.{List, [], _∷_, _++_}
 use native.Mathlib.Omega.{arith}
-use lib.Dec.{T, eqb, ltb, ltb→lt, lit≤}
+use lib.Dec.{T, lit≤}
 use lib.ListN.{length, getD, set, length-set}
 use lib.Seq.{getD-set-same, getD-set-other, set-set}
-use borrow.Author.Tests.{eqb-true, eqb-false}
-use Rattle.rules.specs.Lists.{if_then_else_, nth, set-nth, total, follows, last}
+use Rattle.rules.specs.Lists.{nth, set-nth, total, follows, last}
 use Rattle.rules.specs.State.{Place, Alternation, Progress, Process, ChannelWord, Channel, Core, State}
 use Rattle.rules.specs.Items.{no-core, no-process, no-channel, core-of, process-of, channel-of, put, core, place, data-word, alternation, progress, channel-word, transfers}
-use Rattle.rules.specs.Packing.{
-  place-number,
-  word-number,
-  heads,
-  if-head,
-  core-at,
-  core-words,
-  progress-words,
-  next-link,
-  head-link,
-  batch-link,
-  process-words,
-  channel-words,
-  header-words,
-  pack,
-  process-at,
-  channel-at,
-}
-use Rattle.packing.proofs.Regions.{Dims, Words, Same, Holds, held-once}
-use Rattle.packing.proofs.Blocks.{
-  dims,
-  words-of,
-  pack-holds,
-  length-core-words,
-  length-process-words,
-  length-channel-words,
-  length-progress-words,
-}
+use Rattle.rules.specs.Packing.{place-number, word-number, heads, if-head, core-at, core-words, progress-words, next-link, head-link, batch-link, process-words, channel-words, pack, process-at, channel-at}
+use Rattle.packing.proofs.Regions.{Same}
+use Rattle.packing.proofs.Blocks.{dims, words-of, pack-holds, length-core-words, length-process-words, length-channel-words, length-progress-words}
 use Rattle.packing.proofs.Links.{links-of, held-first, held-writes, held-last, next-kept, head-kept, next-head-kept}
 use Rattle.packing.proofs.ReadLaws.{core-list, alternation-words, own-words, link-words, channel-list, process-split}
-use Rattle.packing.proofs.Focus.{Region, cores, processes, channels, size-in, Has, address, words-in, focus, focus-start, focus-writes, in-block, packed, same-header, writes, below, writes-inside, below-shifted, by-test}
+use Rattle.packing.proofs.Tests.{in-block}
+use Rattle.packing.proofs.Focus.{Region, cores, processes, channels, size-in, Has, address, words-in, focus, focus-start, focus-writes, packed, same-header, writes, below, writes-inside, below-shifted}
 
 -- the words of a block of a state
 abbrev pub block-words : Region → State → ℕ → List ℕ
@@ -62,7 +36,7 @@ pub writes-law : (r : Region) (s s′ : State) (j : ℕ) (at : ℕ → ℕ) (ws 
 writes-law r s s′ j at ws h b e same turned =
     packed s s′ (focus r j (writes ws at (block-words r s j)) (words-of s)) _ e
     (focus-writes r (dims s) (words-of s) j at ws (block-words r s j) (pack s) h (length-block-words r s j) b
-     (focus-start r (dims s) (words-of s) j (block-words r s j) (pack s) (own r) (pack-holds s)))
+    (focus-start r (dims s) (words-of s) j (block-words r s j) (pack s) (own r) (pack-holds s)))
     (rw turned same)
   where
     own : (r : Region) (f : ℕ) → words-in r (words-of s) j f ≡ getD (block-words r s j) f 0
@@ -99,10 +73,12 @@ pub process-law : (s : State) (p : ℕ) (r : Process) (at : ℕ → ℕ) (ws : L
 unfolding next-link head-link batch-link
 process-law s p r at ws low high b turned =
     writes-law processes s (with-process p r s) p at ws (low, high) b same-dims
-    (record { header = λ f b′. ap (λ (l : List ℕ). getD l f 0) (same-header s (with-process p r s) same-dims);
+    (record {
+      header = λ f b′. ap (λ (l : List ℕ). getD l f 0) (same-header s (with-process p r s) same-dims);
       core = λ i f b′ b″. refl;
       process = λ i f low′ b′ b″. in-block p i _ _ (λ x. getD (process-words (with-process p r s) x) f 0) (λ e. refl) (λ ne. ap (λ (l : List ℕ). getD l f 0) (others i ne));
-      channel = λ i f low′ b′ b″. refl })
+      channel = λ i f low′ b′ b″. refl;
+    })
     (ap (writes ws at) (process-split s p) ∙ turned ∙ sym here)
   where
     same-dims : dims (with-process p r s) ≡ dims s
