@@ -28,6 +28,11 @@ writes (w ∷ ws) at t = writes ws at (set t (at (w .0)) (w .1))
 abbrev pub below : ℕ → (ℕ → ℕ) → List (ℕ × ℕ) → Bool
 below n at ws = all (λ (w : ℕ × ℕ). ltb (at (w .0)) n) ws
 
+-- writes keep a list's length
+pub length-writes : (ws : List (ℕ × ℕ)) (at : ℕ → ℕ) (l : List ℕ) → length (writes ws at l) ≡ length l
+length-writes [] at l = refl
+length-writes (w ∷ ws) at l = length-writes ws at (set l (at (w .0)) (w .1)) ∙ length-set l (at (w .0)) (w .1)
+
 -- places below n are, further on by m, below whatever is no less than m + n
 pub below-shifted : (ws : List (ℕ × ℕ)) (m n o : ℕ) → m + n ≤ o → T (below n (λ j. j) ws) → T (below o (λ j. m + j) ws)
 below-shifted [] m n o h b = tt
@@ -60,6 +65,7 @@ writes-inside (w ∷ ws) a l z m n e e′ h =
 
 -- Words of a table with one block given as a list
 
+-- the regions of a table that have blocks
 pub data Region : Type 0 where
   cores processes channels : Region
 
@@ -91,6 +97,7 @@ words-in channels w = w .channel
 abbrev pub block : ℕ → List ℕ → (ℕ → ℕ → ℕ) → ℕ → ℕ → ℕ
 block j l W i f = if eqb i j then getD l f 0 else W i f
 
+-- the words w, but those of block j of a region are the list l
 abbrev pub focus : Region → ℕ → List ℕ → Words → Words
 focus cores k l w = record { header = w .header; core = block k l (w .core); process = w .process; channel = w .channel }
 focus processes p l w = record { header = w .header; core = w .core; process = block p l (w .process); channel = w .channel }
@@ -108,14 +115,16 @@ holds-same d v w t e h =
     }
 
 -- a word written at the address of place g of block j: an address b of place f of block i is that one only if i is j and f is g
-block-set : (j g v : ℕ) (l : List ℕ) (W : ℕ → ℕ → ℕ) (i f a b : ℕ) → g < length l → (a ≡ b → i ≡ j) → (a ≡ b → f ≡ g) → (i ≡ j → f ≡ g → a ≡ b)
+block-set : (j g v : ℕ) (l : List ℕ) (W : ℕ → ℕ → ℕ) (i f a b : ℕ) → g < length l
+    → (a ≡ b → i ≡ j) → (a ≡ b → f ≡ g) → (i ≡ j → f ≡ g → a ≡ b)
     → (if eqb a b then v else block j l W i f) ≡ block j (set l g v) W i f
 block-set j g v l W i f a b inside number place back = cases (eqb i j) refl
   where
     cases : (x : Bool) → eqb i j ≡ x
         → (if eqb a b then v else (if x then getD l f 0 else W i f)) ≡ (if x then getD (set l g v) f 0 else W i f)
     cases true e =
-        ap (λ (x : Bool). if x then v else getD l f 0) (same-test a b f g place (back (eqb-true i j e))) ∙ sym (getD-set l g v f (getD l f 0) inside refl)
+        ap (λ (x : Bool). if x then v else getD l f 0) (same-test a b f g place (back (eqb-true i j e)))
+        ∙ sym (getD-set l g v f (getD l f 0) inside refl)
     cases false e = ap (λ (x : Bool). if x then v else W i f) (ne-eqb a b (λ q. eqb-false i j e (number q)))
 
 module _ (d : Dims) (w : Words) (j f v : ℕ) (l : List ℕ) (inside : f < length l) where
@@ -124,7 +133,8 @@ module _ (d : Dims) (w : Words) (j f v : ℕ) (l : List ℕ) (inside : f < lengt
   same-set cores h b =
       record {
         header = λ g b′. apart g (core-at j f) v _ (λ e. omega arith);
-        core = λ i g b′ b″. block-set j f v l (w .core) i g (core-at i g) (core-at j f) inside (λ e. omega arith) (λ e. omega arith) (λ e e′. omega arith);
+        core = λ i g b′ b″.
+          block-set j f v l (w .core) i g (core-at i g) (core-at j f) inside (λ e. omega arith) (λ e. omega arith) (λ e e′. omega arith);
         process = λ p g low b′ b″. apart (process-at (d .K) p g) (core-at j f) v _ (λ e. omega arith);
         channel = λ c g low b′ b″. apart (channel-at (d .K) (d .N) c g) (core-at j f) v _ (λ e. omega arith);
       }
@@ -133,7 +143,8 @@ module _ (d : Dims) (w : Words) (j f v : ℕ) (l : List ℕ) (inside : f < lengt
       record {
         header = λ g b′. apart g a v _ (λ e. omega arith);
         core = λ i g b′ b″. apart (core-at i g) a v _ (λ e. omega arith);
-        process = λ i g low b′ b″. block-set j f v l (w .process) i g (process-at (d .K) i g) a inside (λ e. omega arith) (λ e. omega arith) (λ e e′. omega arith);
+        process = λ i g low b′ b″.
+          block-set j f v l (w .process) i g (process-at (d .K) i g) a inside (λ e. omega arith) (λ e. omega arith) (λ e e′. omega arith);
         channel = λ c g low b′ b″. apart (channel-at (d .K) (d .N) c g) a v _ (λ e. omega arith);
       }
   same-set channels h b =
@@ -142,14 +153,17 @@ module _ (d : Dims) (w : Words) (j f v : ℕ) (l : List ℕ) (inside : f < lengt
         header = λ g b′. apart g a v _ (λ e. omega arith);
         core = λ i g b′ b″. apart (core-at i g) a v _ (λ e. omega arith);
         process = λ i g low b′ b″. apart (process-at (d .K) i g) a v _ (λ e. omega arith);
-        channel = λ i g low b′ b″. block-set j f v l (w .channel) i g (channel-at (d .K) (d .N) i g) a inside (λ e. omega arith) (λ e. omega arith) (λ e e′. omega arith);
+        channel = λ i g low b′ b″.
+          block-set j f v l (w .channel) i g (channel-at (d .K) (d .N) i g) a inside (λ e. omega arith) (λ e. omega arith) (λ e e′. omega arith);
       }
 
+  -- its address lies in the table
   address-inside : (r : Region) (t : List ℕ) → Has d r j → f < size-in r → length t ≡ room (d .K) (d .N) (d .M) → address d r j f < length t
   address-inside cores t h b e = omega arith
   address-inside processes t h b e = omega arith
   address-inside channels t h b e = omega arith
 
+  -- what a table holds after that
   pub focus-set : (r : Region) (t : List ℕ) → Has d r j → f < size-in r
       → Holds d (focus r j l w) t → Holds d (focus r j (set l f v) w) (set t (address d r j f) v)
   focus-set r t h b held =
@@ -165,9 +179,27 @@ focus-start r d w j l t e h = holds-same d w (focus r j l w) t (same r e) h
     at-block W e i f = sym (in-block j i (getD l f 0) (W i f) (λ i. W i f) (λ q. sym (e f)) (λ ne. refl))
 
     same : (r : Region) → ((f : ℕ) → words-in r w j f ≡ getD l f 0) → Same d w (focus r j l w)
-    same cores e = record { header = λ f b. refl; core = λ i f b b′. at-block (w .core) e i f; process = λ i f low b b′. refl; channel = λ i f low b b′. refl }
-    same processes e = record { header = λ f b. refl; core = λ i f b b′. refl; process = λ i f low b b′. at-block (w .process) e i f; channel = λ i f low b b′. refl }
-    same channels e = record { header = λ f b. refl; core = λ i f b b′. refl; process = λ i f low b b′. refl; channel = λ i f low b b′. at-block (w .channel) e i f }
+    same cores e =
+        record {
+          header = λ f b. refl;
+          core = λ i f b b′. at-block (w .core) e i f;
+          process = λ i f low b b′. refl;
+          channel = λ i f low b b′. refl;
+        }
+    same processes e =
+        record {
+          header = λ f b. refl;
+          core = λ i f b b′. refl;
+          process = λ i f low b b′. at-block (w .process) e i f;
+          channel = λ i f low b b′. refl;
+        }
+    same channels e =
+        record {
+          header = λ f b. refl;
+          core = λ i f b b′. refl;
+          process = λ i f low b b′. refl;
+          channel = λ i f low b b′. at-block (w .channel) e i f;
+        }
 
 -- several words of the block in focus are written
 pub focus-writes : (r : Region) (d : Dims) (w : Words) (j : ℕ) (at : ℕ → ℕ) (ws : List (ℕ × ℕ)) (l t : List ℕ)
@@ -176,14 +208,16 @@ pub focus-writes : (r : Region) (d : Dims) (w : Words) (j : ℕ) (at : ℕ → �
 focus-writes r d w j at [] l t h e b held = held
 focus-writes r d w j at (x ∷ ws) l t h e b held =
     let low : at (x .0) < size-in r = ltb→lt _ _ (both-left (ltb (at (x .0)) (size-in r)) _ b) in
-    focus-writes r d w j at ws (set l (at (x .0)) (x .1)) _ h (length-set l (at (x .0)) (x .1) ∙ e) (both-right (ltb (at (x .0)) (size-in r)) _ b)
+    let rest : T (below (size-in r) at ws) = both-right (ltb (at (x .0)) (size-in r)) _ b in
+    focus-writes r d w j at ws (set l (at (x .0)) (x .1)) _ h (length-set l (at (x .0)) (x .1) ∙ e) rest
     (focus-set d w j (at (x .0)) (x .1) l (omega arith) r t h low held)
 
 -- States
 
 -- a table that holds the words of a state is its packing
 pub packed : (s s′ : State) (w : Words) (t : List ℕ) → dims s′ ≡ dims s → Holds (dims s) w t → Same (dims s) w (words-of s′) → t ≡ pack s′
-packed s s′ w t e h same = held-once (dims s) w (words-of s′) t (pack s′) h (subst (λ (d : Dims). Holds d (words-of s′) (pack s′)) e (pack-holds s′)) same
+packed s s′ w t e h same =
+    held-once (dims s) w (words-of s′) t (pack s′) h (subst (λ (d : Dims). Holds d (words-of s′) (pack s′)) e (pack-holds s′)) same
 
 -- the header has only the numbers of cores, processes and channels
 pub same-header : (s s′ : State) → dims s′ ≡ dims s → header-words s ≡ header-words s′
