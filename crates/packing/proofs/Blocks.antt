@@ -87,7 +87,7 @@ flat-at f b same a (suc n) (suc i) j h g =
 
 -- Lengths
 
-length-padded : (n : ℕ) (l : List ℕ) → length (padded n l) ≡ n
+pub length-padded : (n : ℕ) (l : List ℕ) → length (padded n l) ≡ n
 length-padded zero l = refl
 length-padded (suc n) [] = ap suc (length-padded n [])
 length-padded (suc n) (x ∷ xs) = ap suc (length-padded n xs)

@@ -1,48 +1,21 @@
 -- A table whose words are known but for one block in focus, a list: what it holds after words of that block are written.
-use Prim.Native.Nat.{ℕ, zero, suc, _+_, _*_, _-_, _≤_, _<_}
+use Prim.Native.Nat.{ℕ, suc, _+_, _≤_, _<_}
 use mathlib.Core.Path.{_≡_, refl, sym, ap, _∙_, subst}
-use mathlib.Core.Bool.{Bool, true, false, _&&_}
+use mathlib.Core.Bool.{Bool, true, false}
 use mathlib.Core.List.{List, [], _∷_, _++_}
 use native.Mathlib.Omega.{arith}
 use native.Mathlib.Nat.{zero-add}
 use lib.Dec.{T, eqb, ltb, ltb→lt}
 use lib.ListN.{length, getD, set, length-set, length-append}
 use lib.Seq.{set-append-left}
-use borrow.Author.Tests.{eqb-true, eqb-false, lt-ltb, eq-eqb, ne-eqb}
+use borrow.Author.Tests.{eqb-true, eqb-false, lt-ltb, ne-eqb}
 use Rattle.rules.specs.Lists.{if_then_else_, all}
 use Rattle.rules.specs.SetUp.{room}
 use Rattle.rules.specs.State.{State}
 use Rattle.rules.specs.Packing.{header-words, pack, core-at, process-at, channel-at}
+use Rattle.packing.proofs.Tests.{same-test, apart, in-block, both-left, both-right}
 use Rattle.packing.proofs.Regions.{Dims, Words, Holds, Same, getD-set, holds-set, held-once, written}
 use Rattle.packing.proofs.Blocks.{dims, words-of, pack-holds}
-
--- Tests
-
--- what holds in both cases of a test
-pub by-test : {A : Type 0} (b : Bool) {x y z : A} → (b ≡ true → x ≡ z) → (b ≡ false → y ≡ z) → (if b then x else y) ≡ z
-by-test true yes′ no′ = yes′ refl
-by-test false yes′ no′ = no′ refl
-
--- two tests for equality that hold together
-pub same-test : (a b c d : ℕ) → (a ≡ b → c ≡ d) → (c ≡ d → a ≡ b) → eqb a b ≡ eqb c d
-same-test a b c d there back = cases (eqb a b) refl
-  where
-    cases : (x : Bool) → eqb a b ≡ x → x ≡ eqb c d
-    cases true e = sym (eq-eqb c d (there (eqb-true a b e)))
-    cases false e = sym (ne-eqb c d (λ q. eqb-false a b e (back q)))
-
--- a conjunction of tests and its two parts
-pub both-left : (a b : Bool) → T (a && b) → T a
-both-left true b h = tt
-both-left false b h = h
-
-pub both-right : (a b : Bool) → T (a && b) → T b
-both-right true b h = h
-both-right false b h = absurd h
-
-pub both : (a b : Bool) → T a → T b → T (a && b)
-both true b h g = g
-both false b h g = h
 
 -- Several writes
 
@@ -54,6 +27,11 @@ writes (w ∷ ws) at t = writes ws at (set t (at (w .0)) (w .1))
 -- each place has its address below n
 abbrev pub below : ℕ → (ℕ → ℕ) → List (ℕ × ℕ) → Bool
 below n at ws = all (λ (w : ℕ × ℕ). ltb (at (w .0)) n) ws
+
+-- writes keep a list's length
+pub length-writes : (ws : List (ℕ × ℕ)) (at : ℕ → ℕ) (l : List ℕ) → length (writes ws at l) ≡ length l
+length-writes [] at l = refl
+length-writes (w ∷ ws) at l = length-writes ws at (set l (at (w .0)) (w .1)) ∙ length-set l (at (w .0)) (w .1)
 
 -- places below n are, further on by m, below whatever is no less than m + n
 pub below-shifted : (ws : List (ℕ × ℕ)) (m n o : ℕ) → m + n ≤ o → T (below n (λ j. j) ws) → T (below o (λ j. m + j) ws)
@@ -87,6 +65,7 @@ writes-inside (w ∷ ws) a l z m n e e′ h =
 
 -- Words of a table with one block given as a list
 
+-- the regions of a table that have blocks
 pub data Region : Type 0 where
   cores processes channels : Region
 
@@ -118,6 +97,7 @@ words-in channels w = w .channel
 abbrev pub block : ℕ → List ℕ → (ℕ → ℕ → ℕ) → ℕ → ℕ → ℕ
 block j l W i f = if eqb i j then getD l f 0 else W i f
 
+-- the words w, but those of block j of a region are the list l
 abbrev pub focus : Region → ℕ → List ℕ → Words → Words
 focus cores k l w = record { header = w .header; core = block k l (w .core); process = w .process; channel = w .channel }
 focus processes p l w = record { header = w .header; core = w .core; process = block p l (w .process); channel = w .channel }
@@ -134,25 +114,18 @@ holds-same d v w t e h =
       channel = λ c f l b b′. h .channel c f l b b′ ∙ e .channel c f l b b′;
     }
 
--- a block's words are those of W where its list is, and elsewhere
-pub in-block : (j i x y : ℕ) (W : ℕ → ℕ) → (i ≡ j → x ≡ W j) → ((i ≡ j → ⊥) → y ≡ W i) → (if eqb i j then x else y) ≡ W i
-in-block j i x y W here others =
-    by-test (eqb i j) (λ q. here (eqb-true i j q) ∙ ap W (sym (eqb-true i j q))) (λ q. others (eqb-false i j q))
-
 -- a word written at the address of place g of block j: an address b of place f of block i is that one only if i is j and f is g
-block-set : (j g v : ℕ) (l : List ℕ) (W : ℕ → ℕ → ℕ) (i f a b : ℕ) → g < length l → (a ≡ b → i ≡ j) → (a ≡ b → f ≡ g) → (i ≡ j → f ≡ g → a ≡ b)
+block-set : (j g v : ℕ) (l : List ℕ) (W : ℕ → ℕ → ℕ) (i f a b : ℕ) → g < length l
+    → (a ≡ b → i ≡ j) → (a ≡ b → f ≡ g) → (i ≡ j → f ≡ g → a ≡ b)
     → (if eqb a b then v else block j l W i f) ≡ block j (set l g v) W i f
 block-set j g v l W i f a b inside number place back = cases (eqb i j) refl
   where
     cases : (x : Bool) → eqb i j ≡ x
         → (if eqb a b then v else (if x then getD l f 0 else W i f)) ≡ (if x then getD (set l g v) f 0 else W i f)
     cases true e =
-        ap (λ (x : Bool). if x then v else getD l f 0) (same-test a b f g place (back (eqb-true i j e))) ∙ sym (getD-set l g v f (getD l f 0) inside refl)
+        ap (λ (x : Bool). if x then v else getD l f 0) (same-test a b f g place (back (eqb-true i j e)))
+        ∙ sym (getD-set l g v f (getD l f 0) inside refl)
     cases false e = ap (λ (x : Bool). if x then v else W i f) (ne-eqb a b (λ q. eqb-false i j e (number q)))
-
--- a word at another address is kept
-pub apart : (a b v x : ℕ) → (a ≡ b → ⊥) → (if eqb a b then v else x) ≡ x
-apart a b v x ne = rw (ne-eqb a b ne)
 
 module _ (d : Dims) (w : Words) (j f v : ℕ) (l : List ℕ) (inside : f < length l) where
   -- one word of the block in focus is written, and no other
@@ -160,7 +133,8 @@ module _ (d : Dims) (w : Words) (j f v : ℕ) (l : List ℕ) (inside : f < lengt
   same-set cores h b =
       record {
         header = λ g b′. apart g (core-at j f) v _ (λ e. omega arith);
-        core = λ i g b′ b″. block-set j f v l (w .core) i g (core-at i g) (core-at j f) inside (λ e. omega arith) (λ e. omega arith) (λ e e′. omega arith);
+        core = λ i g b′ b″.
+          block-set j f v l (w .core) i g (core-at i g) (core-at j f) inside (λ e. omega arith) (λ e. omega arith) (λ e e′. omega arith);
         process = λ p g low b′ b″. apart (process-at (d .K) p g) (core-at j f) v _ (λ e. omega arith);
         channel = λ c g low b′ b″. apart (channel-at (d .K) (d .N) c g) (core-at j f) v _ (λ e. omega arith);
       }
@@ -169,7 +143,8 @@ module _ (d : Dims) (w : Words) (j f v : ℕ) (l : List ℕ) (inside : f < lengt
       record {
         header = λ g b′. apart g a v _ (λ e. omega arith);
         core = λ i g b′ b″. apart (core-at i g) a v _ (λ e. omega arith);
-        process = λ i g low b′ b″. block-set j f v l (w .process) i g (process-at (d .K) i g) a inside (λ e. omega arith) (λ e. omega arith) (λ e e′. omega arith);
+        process = λ i g low b′ b″.
+          block-set j f v l (w .process) i g (process-at (d .K) i g) a inside (λ e. omega arith) (λ e. omega arith) (λ e e′. omega arith);
         channel = λ c g low b′ b″. apart (channel-at (d .K) (d .N) c g) a v _ (λ e. omega arith);
       }
   same-set channels h b =
@@ -178,14 +153,17 @@ module _ (d : Dims) (w : Words) (j f v : ℕ) (l : List ℕ) (inside : f < lengt
         header = λ g b′. apart g a v _ (λ e. omega arith);
         core = λ i g b′ b″. apart (core-at i g) a v _ (λ e. omega arith);
         process = λ i g low b′ b″. apart (process-at (d .K) i g) a v _ (λ e. omega arith);
-        channel = λ i g low b′ b″. block-set j f v l (w .channel) i g (channel-at (d .K) (d .N) i g) a inside (λ e. omega arith) (λ e. omega arith) (λ e e′. omega arith);
+        channel = λ i g low b′ b″.
+          block-set j f v l (w .channel) i g (channel-at (d .K) (d .N) i g) a inside (λ e. omega arith) (λ e. omega arith) (λ e e′. omega arith);
       }
 
+  -- its address lies in the table
   address-inside : (r : Region) (t : List ℕ) → Has d r j → f < size-in r → length t ≡ room (d .K) (d .N) (d .M) → address d r j f < length t
   address-inside cores t h b e = omega arith
   address-inside processes t h b e = omega arith
   address-inside channels t h b e = omega arith
 
+  -- what a table holds after that
   pub focus-set : (r : Region) (t : List ℕ) → Has d r j → f < size-in r
       → Holds d (focus r j l w) t → Holds d (focus r j (set l f v) w) (set t (address d r j f) v)
   focus-set r t h b held =
@@ -201,9 +179,27 @@ focus-start r d w j l t e h = holds-same d w (focus r j l w) t (same r e) h
     at-block W e i f = sym (in-block j i (getD l f 0) (W i f) (λ i. W i f) (λ q. sym (e f)) (λ ne. refl))
 
     same : (r : Region) → ((f : ℕ) → words-in r w j f ≡ getD l f 0) → Same d w (focus r j l w)
-    same cores e = record { header = λ f b. refl; core = λ i f b b′. at-block (w .core) e i f; process = λ i f low b b′. refl; channel = λ i f low b b′. refl }
-    same processes e = record { header = λ f b. refl; core = λ i f b b′. refl; process = λ i f low b b′. at-block (w .process) e i f; channel = λ i f low b b′. refl }
-    same channels e = record { header = λ f b. refl; core = λ i f b b′. refl; process = λ i f low b b′. refl; channel = λ i f low b b′. at-block (w .channel) e i f }
+    same cores e =
+        record {
+          header = λ f b. refl;
+          core = λ i f b b′. at-block (w .core) e i f;
+          process = λ i f low b b′. refl;
+          channel = λ i f low b b′. refl;
+        }
+    same processes e =
+        record {
+          header = λ f b. refl;
+          core = λ i f b b′. refl;
+          process = λ i f low b b′. at-block (w .process) e i f;
+          channel = λ i f low b b′. refl;
+        }
+    same channels e =
+        record {
+          header = λ f b. refl;
+          core = λ i f b b′. refl;
+          process = λ i f low b b′. refl;
+          channel = λ i f low b b′. at-block (w .channel) e i f;
+        }
 
 -- several words of the block in focus are written
 pub focus-writes : (r : Region) (d : Dims) (w : Words) (j : ℕ) (at : ℕ → ℕ) (ws : List (ℕ × ℕ)) (l t : List ℕ)
@@ -212,14 +208,16 @@ pub focus-writes : (r : Region) (d : Dims) (w : Words) (j : ℕ) (at : ℕ → �
 focus-writes r d w j at [] l t h e b held = held
 focus-writes r d w j at (x ∷ ws) l t h e b held =
     let low : at (x .0) < size-in r = ltb→lt _ _ (both-left (ltb (at (x .0)) (size-in r)) _ b) in
-    focus-writes r d w j at ws (set l (at (x .0)) (x .1)) _ h (length-set l (at (x .0)) (x .1) ∙ e) (both-right (ltb (at (x .0)) (size-in r)) _ b)
+    let rest : T (below (size-in r) at ws) = both-right (ltb (at (x .0)) (size-in r)) _ b in
+    focus-writes r d w j at ws (set l (at (x .0)) (x .1)) _ h (length-set l (at (x .0)) (x .1) ∙ e) rest
     (focus-set d w j (at (x .0)) (x .1) l (omega arith) r t h low held)
 
 -- States
 
 -- a table that holds the words of a state is its packing
 pub packed : (s s′ : State) (w : Words) (t : List ℕ) → dims s′ ≡ dims s → Holds (dims s) w t → Same (dims s) w (words-of s′) → t ≡ pack s′
-packed s s′ w t e h same = held-once (dims s) w (words-of s′) t (pack s′) h (subst (λ (d : Dims). Holds d (words-of s′) (pack s′)) e (pack-holds s′)) same
+packed s s′ w t e h same =
+    held-once (dims s) w (words-of s′) t (pack s′) h (subst (λ (d : Dims). Holds d (words-of s′) (pack s′)) e (pack-holds s′)) same
 
 -- the header has only the numbers of cores, processes and channels
 pub same-header : (s s′ : State) → dims s′ ≡ dims s → header-words s ≡ header-words s′

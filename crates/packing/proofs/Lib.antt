@@ -9,12 +9,16 @@ pub mod ViewCore
 pub mod ViewProcess
 pub mod ViewChannel
 pub mod Means
+pub mod Tests
 pub mod ReadLaws
 pub mod Focus
 pub mod QueueLists
 pub mod Links
 pub mod WriteLaws
+pub mod Standing
 pub mod Queued
 pub mod Push
 pub mod Take
 pub mod Store
+pub mod Split
+pub mod Load

@@ -1,55 +1,26 @@
 -- A packing while a core's words and the links of processes are written: what it holds, and when it is the packing of the state with
 -- another core. Each link is a sum over the cores, so another core changes it by that core's share alone.
-use Prim.Native.Nat.{ℕ, zero, suc, _+_, _*_, _-_, _≤_, _<_}
+use Prim.Native.Nat.{ℕ, zero, suc, _+_, _-_, _≤_, _<_}
 use mathlib.Core.Path.{_≡_, refl, sym, ap, _∙_}
 use mathlib.Core.Bool.{Bool, true, false, _&&_}
 use mathlib.Core.List.{List, [], _∷_, _++_}
 use native.Mathlib.Omega.{arith}
 use lib.Dec.{T, eqb, ltb, leb, leb→le, ltb→lt}
-use lib.ListN.{length, getD, set, length-set, length-append}
+use lib.ListN.{length, getD, set, length-set}
 use lib.Seq.{getD-set-same, getD-set-other, set-getD}
 use borrow.Author.Tests.{eqb-true, eqb-false, ltb-true, ltb-false}
 use Rattle.rules.specs.Lists.{if_then_else_, total, bit, times, first, last, follows}
 use Rattle.rules.specs.State.{Core, queues-of, State}
 use Rattle.rules.specs.Items.{core-of, process-of, no-core, put, core}
 use Rattle.rules.specs.SetUp.{room}
-use Rattle.rules.specs.Packing.{
-  heads,
-  if-head,
-  next-link,
-  head-link,
-  batch-link,
-  core-words,
-  process-words,
-  channel-words,
-  work-words,
-  pack,
-  core-at,
-  process-at,
-  channel-at,
-}
+use Rattle.rules.specs.Packing.{heads, if-head, next-link, head-link, batch-link, core-words, process-words, work-words, pack, core-at, process-at, channel-at}
 use Rattle.rules.specs.Soundness.{in-queues}
 use Rattle.packing.specs.Queues.{link-end, with-queues}
-use Rattle.packing.proofs.Regions.{Dims, Words, Holds, Same, holds-set, written}
+use Rattle.packing.proofs.Regions.{Dims, Words, Holds, holds-set, written}
 use Rattle.packing.proofs.Blocks.{dims, words-of, pack-holds, length-progress-words, first-part, second-part}
 use Rattle.packing.proofs.ReadLaws.{own-words, link-words, process-split, listed, core-list, core-listed}
-use Rattle.packing.proofs.Focus.{
-  by-test,
-  same-test,
-  both-left,
-  both-right,
-  writes,
-  below,
-  cores,
-  focus,
-  focus-set,
-  focus-start,
-  holds-same,
-  apart,
-  in-block,
-  packed,
-  same-header,
-}
+use Rattle.packing.proofs.Tests.{by-test, same-test, apart, in-block, both-left, both-right, both}
+use Rattle.packing.proofs.Focus.{writes, below, cores, focus, focus-writes, length-writes, focus-start, holds-same, packed, same-header}
 use Rattle.packing.proofs.QueueLists.{total-set, total-alone, no-next, no-head, no-next-head}
 
 -- Links as words 20 to 23 of processes
@@ -67,13 +38,15 @@ write-link f p v L g i = if eqb g f then (if eqb i p then v else L g i) else L g
 abbrev pub links-of : State → ℕ → ℕ → ℕ
 links-of s f p = getD (link-words s p) (f - 20) 0
 
+-- a process has 20 words of its own
 length-own-words : (s : State) (p : ℕ) → length (own-words (process-of s p)) ≡ 20
 length-own-words s p = omega (arith, length-progress-words (process-of s p .progress))
 
 -- a process's words are its own, then its links
 own-word : (s : State) (p f : ℕ) → f < 20 → getD (process-words s p) f 0 ≡ getD (own-words (process-of s p)) f 0
 own-word s p f h =
-    ap (λ (l : List ℕ). getD l f 0) (process-split s p) ∙ first-part (own-words (process-of s p)) (link-words s p) 20 f (length-own-words s p) h
+    ap (λ (l : List ℕ). getD l f 0) (process-split s p)
+    ∙ first-part (own-words (process-of s p)) (link-words s p) 20 f (length-own-words s p) h
 
 link-word : (s : State) (p f : ℕ) → 20 ≤ f → getD (process-words s p) f 0 ≡ links-of s f p
 link-word s p f h =
@@ -133,24 +106,26 @@ module _ (s : State) (k : ℕ) (inside : k < length (s .cores)) where
       }
 
   module _ {l : List ℕ} {L : ℕ → ℕ → ℕ} {t : List ℕ} where
+    -- several words of the core are written
+    pub held-writes : (at : ℕ → ℕ) (ws : List (ℕ × ℕ)) → T (below 16 at ws)
+        → Held s k l L t → Held s k (writes ws at l) L (writes ws (λ f. core-at k (at f)) t)
+    held-writes at ws b h =
+        record {
+          size = length-writes ws at l ∙ h .size;
+          held = focus-writes cores (dims s) (with-links L (words-of s)) k at ws l t inside (h .size) b (h .held);
+        }
+
     -- the word f of the core is written
     pub held-core : (f v : ℕ) → T (ltb f 16) → Held s k l L t → Held s k (set l f v) L (set t (core-at k f) v)
-    held-core f v b h =
-        let low : f < 16 = ltb→lt f 16 b in
-        record {
-          size = length-set l f v ∙ h .size;
-          held = focus-set (dims s) (with-links L (words-of s)) k f v l (omega (arith, h .size)) cores t inside low (h .held);
-        }
+    held-core f v b h = held-writes (λ j. j) ((f, v) ∷ []) (both (ltb f 16) true b tt) h
 
     -- the link at word f of process p is written
     pub held-link : (f p v : ℕ) → T (leb 20 f && ltb f 24) → 1 ≤ p → p ≤ length (s .processes)
         → Held s k l L t → Held s k l (write-link f p v L) (set t (process-at (length (s .cores)) p f) v)
     held-link f p v b low high h =
-        record {
-          size = h .size;
-          held =
-              link-set (dims s) (focus cores k l (words-of s)) L p f v t low high (leb→le 20 f (both-left (leb 20 f) (ltb f 24) b)) (ltb→lt f 24 (both-right (leb 20 f) (ltb f 24) b)) (h .held);
-        }
+        let from : 20 ≤ f = leb→le 20 f (both-left (leb 20 f) (ltb f 24) b) in
+        let to : f < 24 = ltb→lt f 24 (both-right (leb 20 f) (ltb f 24) b) in
+        record { size = h .size; held = link-set (dims s) (focus cores k l (words-of s)) L p f v t low high from to (h .held) }
 
   -- there is no process 0 whose link could be written
   held-nobody : (f v : ℕ) {l : List ℕ} {L : ℕ → ℕ → ℕ} {t : List ℕ} → Held s k l L t → Held s k l (write-link f 0 v L) t
@@ -163,15 +138,16 @@ module _ (s : State) (k : ℕ) (inside : k < length (s .cores)) where
               header = λ g b. refl;
               core = λ i g b b′. refl;
               process = λ i g low b b′.
-                  ap (λ n. if ltb g 20 then words-of s .process i g else n) (sym (by-test (eqb g f) (λ e. apart i 0 v (L g i) (λ z. omega arith)) (λ e. refl)));
+                  ap (λ n. if ltb g 20 then words-of s .process i g else n)
+                  (sym (by-test (eqb g f) (λ e. apart i 0 v (L g i) (λ z. omega arith)) (λ e. refl)));
               channel = λ i g low b b′. refl;
             })
             (h .held);
       }
 
   -- process p is linked behind the last one, or first where there is none
-  pub held-end : (f g b p : ℕ) {l : List ℕ} {L : ℕ → ℕ → ℕ} {t : List ℕ} → T (ltb f 16) → T (leb 20 g && ltb g 24) → b ≤ length (s .processes)
-      → Held s k l L t
+  pub held-end : (f g b p : ℕ) {l : List ℕ} {L : ℕ → ℕ → ℕ} {t : List ℕ}
+      → T (ltb f 16) → T (leb 20 g && ltb g 24) → b ≤ length (s .processes) → Held s k l L t
       → Held s k (set l f (if eqb b 0 then p else getD l f 0)) (write-link g b p L) (link-end f g b p t (length (s .cores)) k)
   held-end f g b p {l} {L} {t} hf hg high h = cases (eqb b 0) refl
     where
@@ -181,14 +157,6 @@ module _ (s : State) (k : ℕ) (inside : k < length (s .cores)) where
       cases true e = rw (eqb-true b 0 e) (held-core f p hf (held-nobody g p h))
       cases false e = rw (set-getD l f 0) (held-link g b p hg (omega (arith, eqb-false b 0 e)) high h)
 
-  -- several words of the core are written
-  pub held-writes : (at : ℕ → ℕ) (ws : List (ℕ × ℕ)) {l : List ℕ} {L : ℕ → ℕ → ℕ} {t : List ℕ} → T (below 16 at ws)
-      → Held s k l L t → Held s k (writes ws at l) L (writes ws (λ f. core-at k (at f)) t)
-  held-writes at [] b h = h
-  held-writes at (w ∷ ws) b h =
-      held-writes at ws (both-right (ltb (at (w .0)) 16) (below 16 at ws) b)
-      (held-core (at (w .0)) (w .1) (both-left (ltb (at (w .0)) 16) (below 16 at ws) b) h)
-
 -- L is the links of s, for the processes 1 to n
 pub record Linked (n : ℕ) (L : ℕ → ℕ → ℕ) (s : State) : Type 0 where
   pub next : (p : ℕ) → 1 ≤ p → p ≤ n → L 20 p ≡ next-link s p
@@ -196,7 +164,9 @@ pub record Linked (n : ℕ) (L : ℕ → ℕ → ℕ) (s : State) : Type 0 where
   pub batch-size : (p : ℕ) → 1 ≤ p → p ≤ n → L 22 p ≡ head-link length s p
   pub next-head : (p : ℕ) → 1 ≤ p → p ≤ n → L 23 p ≡ batch-link s p
 
-linked-word : (n : ℕ) (L : ℕ → ℕ → ℕ) (s : State) → Linked n L s → (p j : ℕ) → 1 ≤ p → p ≤ n → j < 4 → L (20 + j) p ≡ links-of s (20 + j) p
+-- so is each word of the four
+linked-word : (n : ℕ) (L : ℕ → ℕ → ℕ) (s : State) → Linked n L s → (p j : ℕ) → 1 ≤ p → p ≤ n → j < 4
+    → L (20 + j) p ≡ links-of s (20 + j) p
 linked-word n L s h p zero low high b = h .next p low high
 linked-word n L s h p (suc zero) low high b = h .batch-last p low high
 linked-word n L s h p (suc (suc zero)) low high b = h .batch-size p low high
@@ -212,7 +182,9 @@ held-last s k c l L t inside h e linked =
       header = λ f b. ap (λ (l : List ℕ). getD l f 0) (same-header s s′ same-dims);
       core = λ i f b b′. in-block k i _ _ (λ x. getD (core-words (core-of s′ x)) f 0) (λ q. ap (λ (l : List ℕ). getD l f 0) here)
           (λ ne. ap (λ (x : Core). getD (core-words x) f 0) (sym (getD-set-other (s .cores) k i c no-core ne)));
-      process = λ p f low b b′. by-test (ltb f 20) (λ q. own-word s p f (ltb-true f 20 q) ∙ sym (own-word s′ p f (ltb-true f 20 q))) (λ q. link p f low b b′ (ltb-false f 20 q));
+      process = λ p f low b b′.
+          by-test (ltb f 20) (λ q. own-word s p f (ltb-true f 20 q) ∙ sym (own-word s′ p f (ltb-true f 20 q)))
+          (λ q. link p f low b b′ (ltb-false f 20 q));
       channel = λ i f low b b′. refl;
     })
   where
@@ -240,6 +212,7 @@ queue-entries c active batches e₁ e₂ e₃ e₄ e₅ =
 
 -- A core's share in the links
 
+-- in p's next, in what p keeps of a batch as its head, in the head behind p
 abbrev pub next-in : ℕ → Core → ℕ
 next-in p c = total (follows p) (queues-of c)
 

@@ -1,34 +1,20 @@
 -- Push: a process is put at the end of a core's active queue.
-use Prim.Native.Nat.{ℕ, zero, suc, _+_, _*_, _-_, _≤_, _<_}
+use Prim.Native.Nat.{ℕ, _+_, _≤_, _<_}
 use mathlib.Core.Path.{_≡_, refl, sym, ap, _∙_, ap₂}
-use mathlib.Core.Bool.{Bool, true, false, _&&_}
 use mathlib.Core.List.{List, [], _∷_, _++_}
 use native.Mathlib.Omega.{arith}
-use lib.Dec.{T, eqb, lit<}
+use lib.Dec.{T, lit<}
 use lib.ListN.{length, length-append}
-use borrow.Author.Tests.{ne-eqb}
-use Rattle.rules.specs.Lists.{within, all, total, times, first, last, follows}
+use Rattle.rules.specs.Lists.{within, all, total, times, last, follows}
 use Rattle.rules.specs.State.{Core, State}
 use Rattle.rules.specs.Items.{core-of, put, core}
-use Rattle.rules.specs.Packing.{next-link, head-link, batch-link, pack}
+use Rattle.rules.specs.Packing.{next-link, pack}
 use Rattle.packing.specs.Queues.{push-writes, push-table, with-queues, Queued}
-use Rattle.packing.proofs.ReadLaws.{read-core, core-list}
-use Rattle.packing.proofs.Focus.{in-block}
+use Rattle.packing.proofs.ReadLaws.{read-core}
+use Rattle.packing.proofs.Tests.{in-block}
 use Rattle.packing.proofs.QueueLists.{follows-more, follows-last, last-append, times-last, no-next}
-use Rattle.packing.proofs.Links.{
-  queue-entries,
-  held-first,
-  held-core,
-  held-end,
-  held-last,
-  Stands,
-  next-in,
-  next-kept,
-  head-kept,
-  next-head-kept,
-  next-alone,
-}
-use Rattle.packing.proofs.Queued.{active-among, last-bound, first-more, last-stands}
+use Rattle.packing.proofs.Links.{queue-entries, held-first, held-core, held-end, held-last, Stands, next-kept, head-kept, next-head-kept, next-alone}
+use Rattle.packing.proofs.Standing.{active-among, last-bound, first-more, last-stands}
 
 pub push-law : (s : State) (k q : ℕ) → k < length (s .cores) → Queued s
     → push-table (pack s) (length (s .cores)) k q

@@ -1,112 +1,205 @@
--- What the order of the queues says of one core's queues.
-use Prim.Native.Nat.{ℕ, zero, suc, _+_, _*_, _-_, _≤_, _<_}
-use mathlib.Core.Path.{_≡_, refl, sym, ap, _∙_, ap₂}
+-- Which states have their queues in order: valid ones, and those that come from such a state by a change of an item or of a queue.
+use Prim.Native.Nat.{ℕ, _+_, _-_, _≤_, _<_}
+use mathlib.Core.Path.{_≡_, refl, sym, ap, _∙_, subst, subst₂}
 use mathlib.Core.Bool.{Bool, true, false, _&&_}
 use mathlib.Core.List.{List, [], _∷_, _++_}
 use native.Mathlib.Omega.{arith}
-use native.Mathlib.Nat.{le-trans}
-use lib.Dec.{T, eqb, leb, leb→le}
-use lib.ListN.{length}
-use borrow.Author.Tests.{eq-eqb, ne-eqb}
-use Rattle.rules.specs.Lists.{if_then_else_, within, all, total, times, first, last}
-use Rattle.rules.specs.State.{State}
-use Rattle.rules.specs.Items.{core-of, no-core}
-use Rattle.rules.specs.Packing.{heads}
-use Rattle.rules.specs.Soundness.{not-empty, in-queues}
-use Rattle.packing.specs.Queues.{Queued}
-use Rattle.packing.proofs.Focus.{both, both-left, both-right}
-use Rattle.packing.proofs.QueueLists.{total-part, times-again, times-first, times-last, times-heads}
-use Rattle.packing.proofs.Links.{times-in, Stands}
+use lib.Dec.{T, eqb, leb, eqb→eq, le→leb}
+use lib.ListN.{length, getD, set, length-set}
+use lib.Seq.{getD-set-same, getD-set-other}
+use borrow.Author.Tests.{eqb-true, eqb-false}
+use Rattle.rules.specs.Lists.{within, all, total, from, bit, times}
+use Rattle.rules.specs.State.{Place, running, queued, asleep, ended, Core, queues-of, State, wiring}
+use Rattle.rules.specs.Items.{Kind, core, place, data-word, alternation, progress, channel-word, transfers, Val, no-core, core-of, process-of, put}
+use Rattle.rules.specs.SetUp.{sizes}
+use Rattle.rules.specs.Soundness.{in-queues, on-cores, stands, word32, valid-progress, fits, valid-process, valid-work, not-empty, valid-core, valid-channel, valid}
+use Rattle.packing.specs.Queues.{with-queues, Queued}
+use Rattle.packing.proofs.Tests.{both-left, both-right, both, all-at, all-append, all-one}
+use Rattle.packing.proofs.ReadLaws.{length-tabulate, getD-tabulate}
+use Rattle.packing.proofs.WriteLaws.{length-set-nth}
+use Rattle.packing.proofs.QueueLists.{total-set, total-append, times-append}
+use Rattle.packing.proofs.Links.{times-in}
+use Rattle.packing.proofs.Standing.{active-among, batches-among}
 
--- one of 1 to n
-abbrev pub Among : ℕ → ℕ → Type 0
-Among n p = (1 ≤ p) × (p ≤ n)
+-- Valid states
 
-within-among : (n p : ℕ) → T (within 1 n p) → Among n p
-within-among n p h = (leb→le 1 p (both-left (leb 1 p) (leb p n) h), leb→le p n (both-right (leb 1 p) (leb p n) h))
+-- a process stands in queues no more than once, whatever its place
+once-where : (cores queues : ℕ) (x : Place) → T (stands cores queues x) → queues ≤ 1
+once-where cores queues running h = omega (arith, eqb→eq queues 0 (both-right (eqb cores 1) (eqb queues 0) h))
+once-where cores queues queued h = omega (arith, eqb→eq queues 1 (both-right (eqb cores 0) (eqb queues 1) h))
+once-where cores queues asleep h = omega (arith, eqb→eq queues 0 (both-right (eqb cores 0) (eqb queues 0) h))
+once-where cores queues ended h = omega (arith, eqb→eq queues 0 (both-right (eqb cores 0) (eqb queues 0) h))
 
--- the first and the last of a list of such numbers are such
-pub first-among : (n x : ℕ) (l : List ℕ) → T (all (within 1 n) (x ∷ l)) → Among n x
-first-among n x l h = within-among n x (both-left (within 1 n x) (all (within 1 n) l) h)
+pub valid-queued : (s : State) → T (valid s) → Queued s
+unfolding valid valid-core valid-process
+valid-queued s h =
+    record {
+      members = λ k inside. both-right (all-but-members (core-of s k)) _ (at-core k inside);
+      batches = λ k inside.
+          let c = core-of s k in
+          both-right (valid-work (wiring s) (c .work) && leb (c .dispatch) 32) _
+          (both-left (all-but-members c) (all (all (within 1 (length (s .processes)))) (queues-of c)) (at-core k inside));
+      once = λ p low high. once-where (on-cores s p) (in-queues s p) (process-of s p .place) (at-process p low high);
+    }
+  where
+    size-tests : Bool
+    size-tests = sizes (length (s .cores)) (length (s .processes)) (length (s .channels))
 
-last-among : (n x : ℕ) (l : List ℕ) → T (all (within 1 n) (x ∷ l)) → Among n (last (x ∷ l))
-last-among n x [] h = first-among n x [] h
-last-among n x (y ∷ l) h = last-among n y l (both-right (within 1 n x) (all (within 1 n) (y ∷ l)) h)
+    core-tests : Bool
+    core-tests = all (valid-core (wiring s)) (s .cores)
 
-pub last-bound : (n : ℕ) (l : List ℕ) → T (all (within 1 n) l) → last l ≤ n
-last-bound n [] h = omega arith
-last-bound n (x ∷ l) h = last-among n x l h .1
+    process-tests : Bool
+    process-tests = all (valid-process s) (from 1 (length (s .processes)))
 
--- what is first when another is put at the end: that one where there was none, which the last shows
-pub first-more : (n p : ℕ) (l m : List ℕ) → T (all (within 1 n) l) → (if eqb (last l) 0 then p else first l) ≡ first (l ++ (p ∷ m))
-first-more n p [] m h = refl
-first-more n p (x ∷ l) m h = rw (ne-eqb (last (x ∷ l)) 0 (λ e. omega (arith, last-among n x l h .0)))
+    no-channels : T (size-tests && core-tests && process-tests)
+    no-channels = both-left (size-tests && core-tests && process-tests) (all (valid-channel (wiring s)) (s .channels)) h
 
--- what is last when the first is taken off: 0 where nothing is left, which its first shows
-pub last-rest : (n x : ℕ) (l : List ℕ) → T (all (within 1 n) l) → (if eqb (first l) 0 then 0 else last (x ∷ l)) ≡ last l
-last-rest n x [] h = refl
-last-rest n x (y ∷ l) h = rw (ne-eqb y 0 (λ e. omega (arith, first-among n y l h .0)))
+    all-but-members : Core → Bool
+    all-but-members c = valid-work (wiring s) (c .work) && leb (c .dispatch) 32 && all not-empty (c .run-queue)
 
--- so are the heads of batches that are not empty
-heads-among : (n : ℕ) (batches : List (List ℕ)) → T (all (all (within 1 n)) batches) → T (all not-empty batches) → T (all (within 1 n) (heads batches))
-heads-among n [] h g = tt
-heads-among n ([] ∷ batches) h g = absurd g
-heads-among n ((x ∷ l) ∷ batches) h g =
-    both (within 1 n x) (all (within 1 n) (heads batches))
-    (both-left (within 1 n x) (all (within 1 n) l) (both-left (all (within 1 n) (x ∷ l)) (all (all (within 1 n)) batches) h))
-    (heads-among n batches (both-right (all (within 1 n) (x ∷ l)) (all (all (within 1 n)) batches) h) g)
+    at-core : (k : ℕ) → k < length (s .cores) → T (valid-core (wiring s) (core-of s k))
+    at-core k inside =
+        all-at (valid-core (wiring s)) (s .cores) k no-core inside
+        (both-right size-tests core-tests (both-left (size-tests && core-tests) process-tests no-channels))
 
-module _ (s : State) (k : ℕ) (inside : k < length (s .cores)) (queued : Queued s) where
-  pub active-among : T (all (within 1 (length (s .processes))) (core-of s k .active))
-  active-among = both-left (all (within 1 (length (s .processes))) (core-of s k .active)) _ (queued .members k inside)
+    at-process : (p : ℕ) → 1 ≤ p → p ≤ length (s .processes) → T (stands (on-cores s p) (in-queues s p) (process-of s p .place))
+    at-process p low high =
+        let n : ℕ = length (s .processes) in
+        let r = process-of s p in
+        let here : getD (from 1 n) (p - 1) 0 ≡ p = getD-tabulate (λ i. i) 1 n (p - 1) (omega arith) ∙ omega arith in
+        let test : T (valid-process s (getD (from 1 n) (p - 1) 0)) =
+        all-at (valid-process s) (from 1 n) (p - 1) 0 (omega (arith, length-tabulate (λ i. i) 1 n))
+        (both-right (size-tests && core-tests) process-tests no-channels) in
+        both-right (word32 (r .data-word) && leb (r .alternation .count) 9 && valid-progress (wiring s) p (r .progress) && fits (r .place) (r .progress)) _
+        (rw here at test)
 
-  pub core-heads-among : T (all (within 1 (length (s .processes))) (heads (core-of s k .run-queue)))
-  core-heads-among =
-      heads-among (length (s .processes)) (core-of s k .run-queue)
-      (both-right (all (within 1 (length (s .processes))) (core-of s k .active)) _ (queued .members k inside)) (queued .batches k inside)
+-- Other items
 
-  -- a process that stands in the core's queues stands there once
-  pub stands-once : (p : ℕ) → Among (length (s .processes)) p → 1 ≤ times-in p (core-of s k) → Stands s k p
+-- the order of the queues is a matter of the cores and the number of processes
+queued-same : (s s′ : State) → s .cores ≡ s′ .cores → length (s .processes) ≡ length (s′ .processes) → Queued s → Queued s′
+unfolding in-queues
+queued-same s s′ e e′ h =
+    record {
+      members = subst₂ (λ (l : List Core) (n : ℕ). (k : ℕ) → k < length l → T (all (all (within 1 n)) (queues-of (getD l k no-core)))) e e′ (h .members);
+      batches = subst (λ (l : List Core). (k : ℕ) → k < length l → T (all not-empty (getD l k no-core .run-queue))) e (h .batches);
+      once = subst₂ (λ (l : List Core) (n : ℕ). (p : ℕ) → 1 ≤ p → p ≤ n → total (times-in p) l ≤ 1) e e′ (h .once);
+    }
+
+abbrev not-core : Kind → Bool
+not-core core = false
+not-core place = true
+not-core data-word = true
+not-core alternation = true
+not-core progress = true
+not-core channel-word = true
+not-core transfers = true
+
+-- Every item but a core leaves the queues in order.
+pub queued-put : (x : Kind) (i : ℕ) (v : Val x) (s : State) → T (not-core x) → Queued s → Queued (put x i v s)
+queued-put core i v s other h = absurd other
+queued-put place i v s other h = queued-same s _ refl (sym (length-set-nth (s .processes) i _)) h
+queued-put data-word i v s other h = queued-same s _ refl (sym (length-set-nth (s .processes) i _)) h
+queued-put alternation i v s other h = queued-same s _ refl (sym (length-set-nth (s .processes) i _)) h
+queued-put progress i v s other h = queued-same s _ refl (sym (length-set-nth (s .processes) i _)) h
+queued-put channel-word i v s other h = queued-same s _ refl refl h
+queued-put transfers i v s other h = queued-same s _ refl refl h
+
+-- Queues
+
+module _ (s : State) (k : ℕ) (inside : k < length (s .cores)) (h : Queued s) where
+  -- another core leaves the queues in order if its own are, and no process stands in them that stands elsewhere
+  pub queued-core : (c : Core) → T (all (all (within 1 (length (s .processes)))) (queues-of c)) → T (all not-empty (c .run-queue))
+      → ((p : ℕ) → 1 ≤ p → p ≤ length (s .processes) → in-queues s p + times-in p c ≤ 1 + times-in p (core-of s k)) → Queued (put core k c s)
   unfolding in-queues
-  stands-once p among here =
-      let once : in-queues s p ≤ 1 = queued .once p (among .0) (among .1) in
+  queued-core c members batches once =
       record {
-        low = among .0;
-        high = among .1;
-        once = once;
-        here = here;
-        at-most = le-trans (total-part (times-in p) (s .cores) k no-core inside) once;
+        members = λ i b. each (λ x. T (all (all (within 1 (length (s .processes)))) (queues-of x))) i (bound i b) members (h .members i (bound i b));
+        batches = λ i b. each (λ x. T (all not-empty (x .run-queue))) i (bound i b) batches (h .batches i (bound i b));
+        once = λ p low high. omega (arith, total-set (times-in p) (s .cores) k c no-core inside, once p low high);
       }
+    where
+      bound : (i : ℕ) → i < length (set (s .cores) k c) → i < length (s .cores)
+      bound i b = rw length-set at b
 
-  -- so does the first of the active queue
-  pub first-stands : (p : ℕ) (rest : List ℕ) → core-of s k .active ≡ p ∷ rest → Stands s k p
-  first-stands p rest e =
-      let here : 1 ≤ times p (core-of s k .active) = rw e (times-first p p rest (eq-eqb p p refl)) in
-      stands-once p (first-among _ p rest (rw e at active-among)) (omega arith)
+      each : (P : Core → Type 0) (i : ℕ) → i < length (s .cores) → P c → P (core-of s i) → P (getD (set (s .cores) k c) i no-core)
+      each P i b new old = cases (eqb i k) refl
+        where
+          cases : (x : Bool) → eqb i k ≡ x → P (getD (set (s .cores) k c) i no-core)
+          cases true e = rw (eqb-true i k e) (rw (getD-set-same (s .cores) k c no-core inside) new)
+          cases false e = rw (getD-set-other (s .cores) k i c no-core (eqb-false i k e)) old
 
-  -- it stands neither further on in that queue nor in a batch
-  pub first-once : (p : ℕ) (rest : List ℕ) → core-of s k .active ≡ p ∷ rest → (times p rest ≡ 0) × (total (times p) (core-of s k .run-queue) ≡ 0)
-  first-once p rest e =
-      let stands : Stands s k p = first-stands p rest e in
-      let count : times p (core-of s k .active) ≡ 1 + times p rest = ap (times p) e ∙ times-again p rest in
-      omega arith
+  -- so it does if no process stands there more often than before
+  queued-fewer : (c : Core) → T (all (all (within 1 (length (s .processes)))) (queues-of c)) → T (all not-empty (c .run-queue))
+      → ((p : ℕ) → times-in p c ≤ times-in p (core-of s k)) → Queued (put core k c s)
+  queued-fewer c members batches fewer = queued-core c members batches (λ p low high. omega (arith, fewer p, h .once p low high))
 
-  -- the last of the active queue
-  pub last-stands : 1 ≤ last (core-of s k .active) → Stands s k (last (core-of s k .active))
-  last-stands low =
-      let here : 1 ≤ times (last (core-of s k .active)) (core-of s k .active) = times-last (core-of s k .active) low in
-      stands-once (last (core-of s k .active)) (low, last-bound _ (core-of s k .active) active-among) (omega arith)
+  -- a core with the same queues
+  pub queued-same-queues : (c : Core) → core-of s k .active ≡ c .active → core-of s k .run-queue ≡ c .run-queue → Queued (put core k c s)
+  queued-same-queues c e e′ =
+      queued-fewer c (subst₂ (λ a r. T (all (all (within 1 (length (s .processes)))) (a ∷ r))) e e′ (h .members k inside))
+      (rw e′ at (h .batches k inside)) (λ p. omega (arith, ap (times p) e, ap (total (times p)) e′))
 
-  -- and the last head, which is a head once
-  pub last-head-stands : 1 ≤ last (heads (core-of s k .run-queue)) → Stands s k (last (heads (core-of s k .run-queue)))
-  last-head-stands low =
-      let b : ℕ = last (heads (core-of s k .run-queue)) in
-      let here : 1 ≤ times b (heads (core-of s k .run-queue)) = times-last (heads (core-of s k .run-queue)) low in
-      stands-once b (low, last-bound _ (heads (core-of s k .run-queue)) core-heads-among) (omega (arith, times-heads b (core-of s k .run-queue) low))
+  pub queued-push : (q : ℕ) → 1 ≤ q → q ≤ length (s .processes) → in-queues s q ≡ 0
+      → Queued (put core k (with-queues (core-of s k .active ++ (q ∷ [])) (core-of s k .run-queue) (core-of s k)) s)
+  queued-push q low high none =
+      queued-core _ (both (all (within 1 n) (l ++ (q ∷ []))) _ (all-append (within 1 n) l (q ∷ []) (active-among s k inside h) (all-one (within 1 n) q in-range)) (batches-among s k inside h))
+      (h .batches k inside) (λ p low′ high′. omega (arith, times-append p l (q ∷ []), once p low′ high′ (eqb q p) refl))
+    where
+      n : ℕ
+      n = length (s .processes)
 
-  pub last-head-once : (low : 1 ≤ last (heads (core-of s k .run-queue)))
-      → times (last (heads (core-of s k .run-queue))) (heads (core-of s k .run-queue)) ≤ 1
-  last-head-once low =
-      let b : ℕ = last (heads (core-of s k .run-queue)) in
-      let stands : Stands s k b = last-head-stands low in
-      omega (arith, times-heads b (core-of s k .run-queue) low)
+      l : List ℕ
+      l = core-of s k .active
+
+      in-range : T (within 1 n q)
+      in-range = both (leb 1 q) (leb q n) (le→leb 1 q low) (le→leb q n high)
+
+      once : (p : ℕ) → 1 ≤ p → p ≤ n → (x : Bool) → eqb q p ≡ x → in-queues s p + bit x ≤ 1
+      once p low′ high′ true e = omega (arith, ap (in-queues s) (eqb-true q p e), none)
+      once p low′ high′ false e = omega (arith, h .once p low′ high′)
+
+  pub queued-take : (p : ℕ) (rest : List ℕ) → core-of s k .active ≡ p ∷ rest
+      → Queued (put core k (with-queues rest (core-of s k .run-queue) (core-of s k)) s)
+  queued-take p rest e =
+      queued-fewer _ (both (all (within 1 n) rest) _ (both-right (within 1 n p) _ (rw e at (active-among s k inside h))) (batches-among s k inside h))
+      (h .batches k inside) (λ i. omega (arith, ap (times i) e))
+    where
+      n : ℕ
+      n = length (s .processes)
+
+  -- the active queue becomes new batches
+  queued-stored : (new : List (List ℕ)) → T (all (all (within 1 (length (s .processes)))) new) → T (all not-empty new)
+      → ((i : ℕ) → total (times i) new ≡ times i (core-of s k .active))
+      → Queued (put core k (with-queues [] (core-of s k .run-queue ++ new) (core-of s k)) s)
+  queued-stored new among full same =
+      queued-fewer _ (all-append (all (within 1 (length (s .processes)))) r new (batches-among s k inside h) among)
+      (all-append not-empty r new (h .batches k inside) full) (λ i. omega (arith, total-append (times i) r new, same i))
+    where
+      r : List (List ℕ)
+      r = core-of s k .run-queue
+
+  pub queued-store : (p : ℕ) (rest : List ℕ) → core-of s k .active ≡ p ∷ rest
+      → Queued (put core k (with-queues [] (core-of s k .run-queue ++ ((p ∷ rest) ∷ [])) (core-of s k)) s)
+  queued-store p rest e =
+      queued-stored ((p ∷ rest) ∷ []) (all-one (all (within 1 (length (s .processes)))) (p ∷ rest) (rw e at (active-among s k inside h))) tt
+      (λ i. omega (arith, ap (times i) e))
+
+  pub queued-split : (p q : ℕ) (rest : List ℕ) → core-of s k .active ≡ p ∷ (q ∷ rest)
+      → Queued (put core k (with-queues [] (core-of s k .run-queue ++ ((p ∷ []) ∷ ((q ∷ rest) ∷ []))) (core-of s k)) s)
+  queued-split p q rest e =
+      queued-stored ((p ∷ []) ∷ ((q ∷ rest) ∷ []))
+      (both (all (within 1 n) (p ∷ [])) _ (all-one (within 1 n) p (both-left (within 1 n p) (all (within 1 n) (q ∷ rest)) among))
+      (all-one (all (within 1 n)) (q ∷ rest) (both-right (within 1 n p) (all (within 1 n) (q ∷ rest)) among)))
+      tt (λ i. omega (arith, ap (times i) e))
+    where
+      n : ℕ
+      n = length (s .processes)
+
+      among : T (all (within 1 n) (p ∷ (q ∷ rest)))
+      among = rw e at (active-among s k inside h)
+
+  pub queued-load : (batch : List ℕ) (rest : List (List ℕ)) → core-of s k .run-queue ≡ batch ∷ rest
+      → Queued (put core k (with-queues batch rest (core-of s k)) s)
+  queued-load batch rest e =
+      queued-fewer _ (rw e at (batches-among s k inside h)) (both-right (not-empty batch) _ (rw e at (h .batches k inside)))
+      (λ i. omega (arith, ap (total (times i)) e))

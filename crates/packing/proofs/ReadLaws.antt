@@ -1,5 +1,5 @@
 -- Read laws: what code reads at an address of a packing, as an entry of an explicit list. At a literal place the entry computes.
-use Prim.Native.Nat.{ℕ, zero, suc, _+_, _*_, _-_, _≤_, _<_}
+use Prim.Native.Nat.{ℕ, zero, suc, _+_, _≤_, _<_}
 use mathlib.Core.Path.{_≡_, refl, sym, ap, _∙_}
 use mathlib.Core.List.{List, [], _∷_, _++_}
 use native.Mathlib.Omega.{arith}
@@ -9,35 +9,18 @@ use lib.Seq.{ext-getD}
 use Rattle.rules.specs.Lists.{tabulate, bit, first, last}
 use Rattle.rules.specs.State.{Alternation, Process, Core, Channel, State}
 use Rattle.rules.specs.Items.{core-of, process-of, channel-of}
-use Rattle.rules.specs.Packing.{
-  place-number,
-  word-number,
-  work-words,
-  heads,
-  core-words,
-  progress-words,
-  next-link,
-  head-link,
-  batch-link,
-  process-words,
-  channel-words,
-  header-words,
-  pack,
-  core-at,
-  process-at,
-  channel-at,
-}
-use Rattle.packing.proofs.Regions.{Holds}
-use Rattle.packing.proofs.Blocks.{pack-holds, length-work-words, length-progress-words, first-part, second-part}
+use Rattle.rules.specs.Packing.{place-number, word-number, work-words, heads, padded, core-words, progress-words, next-link, head-link, batch-link, process-words, channel-words, header-words, pack, core-at, process-at, channel-at}
+use Rattle.packing.proofs.Blocks.{pack-holds, length-padded, length-work-words, length-progress-words, first-part, second-part}
 
 -- A list written out
 
-length-tabulate : (f : ℕ → ℕ) (a n : ℕ) → length (tabulate f a n) ≡ n
+-- how long a tabulated list is
+pub length-tabulate : (f : ℕ → ℕ) (a n : ℕ) → length (tabulate f a n) ≡ n
 length-tabulate f a zero = refl
 length-tabulate f a (suc n) = ap suc (length-tabulate f (suc a) n)
 
 -- the i-th of a tabulated list
-getD-tabulate : (f : ℕ → ℕ) (a n i : ℕ) → i < n → getD (tabulate f a n) i 0 ≡ f (a + i)
+pub getD-tabulate : (f : ℕ → ℕ) (a n i : ℕ) → i < n → getD (tabulate f a n) i 0 ≡ f (a + i)
 getD-tabulate f a zero i h = absurd (omega arith)
 getD-tabulate f a (suc n) zero h = ap f (sym (add-zero a))
 getD-tabulate f a (suc n) (suc i) h =
@@ -48,13 +31,29 @@ getD-tabulate f a (suc n) (suc i) h =
 abbrev pub listed : List ℕ → ℕ → List ℕ
 listed l n = tabulate (λ i. getD l i 0) 0 n
 
-pub listed-same : (l : List ℕ) (n : ℕ) → length l ≡ n → l ≡ listed l n
-listed-same l n e = ext-getD 0 l (listed l n) (e ∙ sym (length-tabulate (λ i. getD l i 0) 0 n)) each
+-- a list of n words that are those of l
+same-listed : (l m : List ℕ) (n : ℕ) → length m ≡ n → ((i : ℕ) → i < n → getD m i 0 ≡ getD l i 0) → m ≡ listed l n
+same-listed l m n e same = ext-getD 0 m (listed l n) (e ∙ sym (length-tabulate (λ i. getD l i 0) 0 n)) each
   where
-    each : (i : ℕ) → i < length l → getD l i 0 ≡ getD (listed l n) i 0
+    each : (i : ℕ) → i < length m → getD m i 0 ≡ getD (listed l n) i 0
     each i h =
         let b : i < n = omega (arith, e) in
-        sym (getD-tabulate (λ i. getD l i 0) 0 n i b ∙ ap (λ (j : ℕ). getD l j 0) (zero-add i))
+        same i b ∙ sym (getD-tabulate (λ i. getD l i 0) 0 n i b ∙ ap (λ (j : ℕ). getD l j 0) (zero-add i))
+
+-- the list itself
+pub listed-same : (l : List ℕ) (n : ℕ) → length l ≡ n → l ≡ listed l n
+listed-same l n e = same-listed l l n e (λ i h. refl)
+
+-- the list cut or filled up with zeros to n words
+getD-padded : (n : ℕ) (l : List ℕ) (i : ℕ) → i < n → getD (padded n l) i 0 ≡ getD l i 0
+getD-padded zero l i h = absurd (omega arith)
+getD-padded (suc n) [] zero h = refl
+getD-padded (suc n) [] (suc i) h = getD-padded n [] i (omega arith)
+getD-padded (suc n) (x ∷ l) zero h = refl
+getD-padded (suc n) (x ∷ l) (suc i) h = getD-padded n l i (omega arith)
+
+pub padded-listed : (n : ℕ) (l : List ℕ) → padded n l ≡ listed l n
+padded-listed n l = same-listed l (padded n l) n (length-padded n l) (getD-padded n l)
 
 -- A core's 16 words: 0 to 2 its work; 3, 4, 5 the active queue's first, last and size; 6 dispatch count; 7 mark; 8, 9 the first
 -- and the last head.
@@ -66,6 +65,7 @@ after-work c =
 abbrev pub core-list : Core → List ℕ
 core-list c = listed (work-words (c .work)) 3 ++ after-work c
 
+-- these are the words of the packing
 pub core-listed : (c : Core) → core-words c ≡ core-list c
 unfolding core-words
 core-listed c = ap (λ (l : List ℕ). l ++ after-work c) (listed-same (work-words (c .work)) 3 (length-work-words (c .work)))
@@ -81,6 +81,7 @@ own-words r = place-number (r .place) ∷ r .data-word ∷ alternation-words (r 
 abbrev pub link-words : State → ℕ → List ℕ
 link-words s p = next-link s p ∷ head-link last s p ∷ head-link length s p ∷ batch-link s p ∷ []
 
+-- together they are the words of the packing
 pub process-split : (s : State) (p : ℕ) → process-words s p ≡ own-words (process-of s p) ++ link-words s p
 unfolding process-words
 process-split s p = refl
@@ -89,8 +90,11 @@ process-split s p = refl
 abbrev pub process-list : State → ℕ → List ℕ
 process-list s p =
     let r = process-of s p in
-    place-number (r .place) ∷ r .data-word ∷ alternation-words (r .alternation) ++ listed (progress-words (r .progress)) 14 ++ link-words s p
+    place-number (r .place) ∷ r .data-word ∷ alternation-words (r .alternation)
+    ++ listed (progress-words (r .progress)) 14
+    ++ link-words s p
 
+-- these are the words of the packing
 pub process-listed : (s : State) (p : ℕ) → process-words s p ≡ process-list s p
 process-listed s p =
     let r = process-of s p in
@@ -109,8 +113,7 @@ header-list s = length (s .cores) ∷ length (s .processes) ∷ length (s .chann
 -- The laws
 
 -- header: 0 the number of cores, 1 of processes, 2 of channels
-pub read-header : (s : State) (f : ℕ) → f < 8
-    → getD (pack s) f 0 ≡ getD (header-list s) f 0
+pub read-header : (s : State) (f : ℕ) → f < 8 → getD (pack s) f 0 ≡ getD (header-list s) f 0
 unfolding header-words
 read-header s f h = pack-holds s .header f h
 
@@ -136,5 +139,6 @@ read-progress s p j l h b =
     let r = process-of s p in
     pack-holds s .process p (6 + j) l h (omega arith)
     ∙ ap (λ (l : List ℕ). getD l (6 + j) 0) (process-split s p)
-    ∙ second-part (place-number (r .place) ∷ r .data-word ∷ alternation-words (r .alternation)) (progress-words (r .progress) ++ link-words s p) 6 j refl
+    ∙ second-part (place-number (r .place) ∷ r .data-word ∷ alternation-words (r .alternation))
+      (progress-words (r .progress) ++ link-words s p) 6 j refl
     ∙ first-part (progress-words (r .progress)) (link-words s p) 14 j (length-progress-words (r .progress)) b

@@ -1,48 +1,20 @@
 -- Store: a core's active queue becomes the last batch of its run queue.
-use Prim.Native.Nat.{ℕ, zero, suc, _+_, _*_, _-_, _≤_, _<_}
-use mathlib.Core.Path.{_≡_, refl, sym, ap, _∙_, ap₂}
-use mathlib.Core.Bool.{Bool, true, false, _&&_}
+use Prim.Native.Nat.{ℕ, _≤_, _<_}
+use mathlib.Core.Path.{_≡_, refl, sym, ap, _∙_}
 use mathlib.Core.List.{List, [], _∷_, _++_}
 use native.Mathlib.Omega.{arith}
 use lib.Dec.{T, eqb, lit<}
-use lib.ListN.{length, length-append}
-use Rattle.rules.specs.Lists.{if_then_else_, within, all, total, times, first, last, follows}
+use lib.ListN.{length}
+use Rattle.rules.specs.Lists.{if_then_else_, within, all, first, last, follows}
 use Rattle.rules.specs.State.{Core, State}
 use Rattle.rules.specs.Items.{core-of, put, core}
-use Rattle.rules.specs.Packing.{heads, if-head, word-at, process-at, core-at, next-link, head-link, batch-link, pack}
+use Rattle.rules.specs.Packing.{heads, if-head, head-link, batch-link, pack}
 use Rattle.packing.specs.Queues.{store-heads, store-writes, store-table, with-queues, Queued}
 use Rattle.packing.proofs.ReadLaws.{read-core, core-list}
-use Rattle.packing.proofs.Focus.{in-block}
-use Rattle.packing.proofs.QueueLists.{
-  total-append,
-  times-last,
-  times-heads,
-  follows-more,
-  follows-last,
-  last-append,
-  heads-append,
-  if-head-first,
-  if-head-other,
-  no-head,
-}
-use Rattle.packing.proofs.Links.{
-  write-link,
-  Held,
-  held-first,
-  held-core,
-  held-link,
-  held-end,
-  Linked,
-  held-last,
-  queue-entries,
-  Stands,
-  next-kept,
-  head-kept,
-  next-head-kept,
-  head-alone,
-  next-head-alone,
-}
-use Rattle.packing.proofs.Queued.{first-stands, first-once, last-head-stands, last-head-once, core-heads-among, last-bound, first-more}
+use Rattle.packing.proofs.Tests.{in-block}
+use Rattle.packing.proofs.QueueLists.{total-append, follows-more, follows-last, last-append, heads-append, if-head-first, if-head-other, no-head}
+use Rattle.packing.proofs.Links.{write-link, Held, held-first, held-core, held-link, held-end, Linked, held-last, queue-entries, Stands, next-kept, head-kept, next-head-kept, head-alone, next-head-alone}
+use Rattle.packing.proofs.Standing.{first-stands, first-once, last-head-stands, last-head-once, core-heads-among, last-bound, first-more}
 
 -- Once the links of new batches are written, the first of them with the head p, the writes of a store put them at the end of the run queue.
 pub stored : (s : State) (k p : ℕ) (l : List ℕ) (more : List (List ℕ)) (L : ℕ → ℕ → ℕ) (t : List ℕ) → k < length (s .cores) → Queued s

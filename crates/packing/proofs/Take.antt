@@ -1,34 +1,20 @@
 -- Take: the first process is taken off a core's active queue.
-use Prim.Native.Nat.{ℕ, zero, suc, _+_, _*_, _-_, _≤_, _<_}
-use mathlib.Core.Path.{_≡_, refl, sym, ap, _∙_, ap₂}
-use mathlib.Core.Bool.{Bool, true, false, _&&_}
-use mathlib.Core.List.{List, [], _∷_, _++_}
+use Prim.Native.Nat.{ℕ, _+_, _<_}
+use mathlib.Core.Path.{_≡_, refl, sym, ap, _∙_}
+use mathlib.Core.List.{List, _∷_}
 use native.Mathlib.Omega.{arith}
-use lib.Dec.{T, eqb, lit<}
-use lib.ListN.{length, length-append}
-use borrow.Author.Tests.{ne-eqb}
-use Rattle.rules.specs.Lists.{within, all, total, times, first, last, follows}
+use lib.Dec.{T, lit<}
+use lib.ListN.{length}
+use Rattle.rules.specs.Lists.{within, all, total, first, last, follows}
 use Rattle.rules.specs.State.{Core, State}
 use Rattle.rules.specs.Items.{core-of, put, core}
 use Rattle.rules.specs.Packing.{word-at, process-at, core-at, next-link, pack}
 use Rattle.packing.specs.Queues.{take-writes, take-table, with-queues, Queued}
-use Rattle.packing.proofs.ReadLaws.{read-core, read-process, core-list}
-use Rattle.packing.proofs.Focus.{in-block, both-right}
+use Rattle.packing.proofs.ReadLaws.{read-core, read-process}
+use Rattle.packing.proofs.Tests.{in-block, both-right}
 use Rattle.packing.proofs.QueueLists.{follows-none, follows-first, follows-rest, no-next}
-use Rattle.packing.proofs.Links.{
-  held-first,
-  held-core,
-  held-link,
-  held-last,
-  queue-entries,
-  next-in,
-  Stands,
-  next-kept,
-  head-kept,
-  next-head-kept,
-  next-alone,
-}
-use Rattle.packing.proofs.Queued.{first-stands, first-once, active-among, last-rest}
+use Rattle.packing.proofs.Links.{held-first, held-core, held-link, held-last, queue-entries, next-in, Stands, next-kept, head-kept, next-head-kept, next-alone}
+use Rattle.packing.proofs.Standing.{first-stands, first-once, active-among, last-rest}
 
 module _ (s : State) (k p : ℕ) (rest : List ℕ) (inside : k < length (s .cores)) (queued : Queued s) (e : core-of s k .active ≡ p ∷ rest) where
   -- who is next in the table is next in the queue

@@ -1,47 +1,21 @@
 -- Write laws: writes into one block of a packing give the packing of the state with another item.
-use Prim.Native.Nat.{ℕ, zero, suc, _+_, _*_, _-_, _≤_, _<_}
+use Prim.Native.Nat.{ℕ, zero, suc, _+_, _≤_, _<_}
 use mathlib.Core.Path.{_≡_, refl, sym, ap, _∙_, ap₂}
-use mathlib.Core.Bool.{Bool, true, false, _&&_}
-use mathlib.Core.List.{List, [], _∷_, _++_, append-assoc}
+use mathlib.Core.List.{List, [], _∷_, _++_}
 use native.Mathlib.Omega.{arith}
-use lib.Dec.{T, eqb, ltb, ltb→lt, lit≤}
+use lib.Dec.{T, lit≤}
 use lib.ListN.{length, getD, set, length-set}
-use lib.Seq.{getD-set-same, getD-set-other}
-use borrow.Author.Tests.{eqb-true, eqb-false}
-use Rattle.rules.specs.Lists.{if_then_else_, nth, set-nth, total, follows, last}
+use lib.Seq.{getD-set-same, getD-set-other, set-set}
+use Rattle.rules.specs.Lists.{nth, set-nth, total, follows, last}
 use Rattle.rules.specs.State.{Place, Alternation, Progress, Process, ChannelWord, Channel, Core, State}
-use Rattle.rules.specs.Items.{no-process, no-channel, core-of, process-of, channel-of, put, core, place, data-word, alternation, progress, channel-word, transfers}
-use Rattle.rules.specs.Packing.{
-  place-number,
-  word-number,
-  heads,
-  if-head,
-  core-at,
-  core-words,
-  progress-words,
-  next-link,
-  head-link,
-  batch-link,
-  process-words,
-  channel-words,
-  header-words,
-  pack,
-  process-at,
-  channel-at,
-}
-use Rattle.packing.proofs.Regions.{Dims, Words, Same, Holds, held-once}
-use Rattle.packing.proofs.Blocks.{
-  dims,
-  words-of,
-  pack-holds,
-  length-core-words,
-  length-process-words,
-  length-channel-words,
-  length-progress-words,
-}
+use Rattle.rules.specs.Items.{no-core, no-process, no-channel, core-of, process-of, channel-of, put, core, place, data-word, alternation, progress, channel-word, transfers}
+use Rattle.rules.specs.Packing.{place-number, word-number, heads, if-head, core-at, core-words, progress-words, next-link, head-link, batch-link, process-words, channel-words, pack, process-at, channel-at}
+use Rattle.packing.proofs.Regions.{Same}
+use Rattle.packing.proofs.Blocks.{dims, words-of, pack-holds, length-core-words, length-process-words, length-channel-words, length-progress-words}
 use Rattle.packing.proofs.Links.{links-of, held-first, held-writes, held-last, next-kept, head-kept, next-head-kept}
-use Rattle.packing.proofs.ReadLaws.{core-list, alternation-words, own-words, link-words, channel-list, process-split}
-use Rattle.packing.proofs.Focus.{Region, cores, processes, channels, size-in, Has, address, words-in, focus, focus-start, focus-writes, in-block, packed, same-header, writes, below, writes-inside, below-shifted, by-test}
+use Rattle.packing.proofs.ReadLaws.{listed, listed-same, core-list, alternation-words, own-words, link-words, channel-list, process-split}
+use Rattle.packing.proofs.Tests.{in-block}
+use Rattle.packing.proofs.Focus.{Region, cores, processes, channels, size-in, Has, address, words-in, focus, focus-start, focus-writes, packed, same-header, writes, below, writes-inside, below-shifted}
 
 -- the words of a block of a state
 abbrev pub block-words : Region → State → ℕ → List ℕ
@@ -49,6 +23,7 @@ block-words cores s k = core-words (core-of s k)
 block-words processes s p = process-words s p
 block-words channels s c = channel-words (channel-of s c)
 
+-- it is as long as a block of its region
 length-block-words : (r : Region) (s : State) (j : ℕ) → length (block-words r s j) ≡ size-in r
 length-block-words cores s k = length-core-words (core-of s k)
 length-block-words processes s p = length-process-words s p
@@ -73,7 +48,8 @@ writes-law r s s′ j at ws h b e same turned =
 -- Lists counted from 1
 
 module _ {A : Type 0} where
-  length-set-nth : (l : List A) (p : ℕ) (a : A) → length (set-nth l p a) ≡ length l
+  -- what is there after one element was set: as many as before, that one in its place, and the others
+  pub length-set-nth : (l : List A) (p : ℕ) (a : A) → length (set-nth l p a) ≡ length l
   length-set-nth l zero a = refl
   length-set-nth l (suc i) a = length-set l i a
 
@@ -93,7 +69,8 @@ abbrev pub with-process : ℕ → Process → State → State
 with-process p r s = record { cores = s .cores; processes = set-nth (s .processes) p r; channels = s .channels }
 
 -- Writes that turn a process's own words into another's
-pub process-law : (s : State) (p : ℕ) (r : Process) (at : ℕ → ℕ) (ws : List (ℕ × ℕ)) → 1 ≤ p → p ≤ length (s .processes) → T (below 24 at ws)
+pub process-law : (s : State) (p : ℕ) (r : Process) (at : ℕ → ℕ) (ws : List (ℕ × ℕ))
+    → 1 ≤ p → p ≤ length (s .processes) → T (below 24 at ws)
     → writes ws at (own-words (process-of s p) ++ link-words s p) ≡ own-words r ++ link-words s p
     → writes ws (λ f. process-at (length (s .cores)) p (at f)) (pack s) ≡ pack (with-process p r s)
 unfolding next-link head-link batch-link
@@ -102,7 +79,8 @@ process-law s p r at ws low high b turned =
     (record {
       header = λ f b′. ap (λ (l : List ℕ). getD l f 0) (same-header s (with-process p r s) same-dims);
       core = λ i f b′ b″. refl;
-      process = λ i f low′ b′ b″. in-block p i _ _ (λ x. getD (process-words (with-process p r s) x) f 0) (λ e. refl) (λ ne. ap (λ (l : List ℕ). getD l f 0) (others i ne));
+      process = λ i f low′ b′ b″.
+          in-block p i _ _ (λ x. getD (process-words (with-process p r s) x) f 0) (λ e. refl) (λ ne. ap (λ (l : List ℕ). getD l f 0) (others i ne));
       channel = λ i f low′ b′ b″. refl;
     })
     (ap (writes ws at) (process-split s p) ∙ turned ∙ sym here)
@@ -111,7 +89,9 @@ process-law s p r at ws low high b turned =
     same-dims = ap (λ (n : ℕ). record { K = length (s .cores); N = n; M = length (s .channels) }) (length-set-nth (s .processes) p r)
 
     here : process-words (with-process p r s) p ≡ own-words r ++ link-words s p
-    here = process-split (with-process p r s) p ∙ ap (λ (x : Process). own-words x ++ link-words s p) (nth-set-same (s .processes) p r no-process low high)
+    here =
+        process-split (with-process p r s) p
+        ∙ ap (λ (x : Process). own-words x ++ link-words s p) (nth-set-same (s .processes) p r no-process low high)
 
     others : (i : ℕ) → (i ≡ p → ⊥) → process-words s i ≡ process-words (with-process p r s) i
     others i ne =
@@ -143,8 +123,8 @@ module _ (s : State) (p : ℕ) (low : 1 ≤ p) (high : p ≤ length (s .processe
       → writes ws (λ j. process-at (length (s .cores)) p (2 + j)) (pack s) ≡ pack (put alternation p v s)
   put-alternation v ws b turned =
       let r = process-of s p in
-      part-law s p _ ws (place-number (r .place) ∷ r .data-word ∷ []) (alternation-words (r .alternation)) _ (progress-words (r .progress) ++ link-words s p)
-      2 4 low high refl refl (lit≤ tt) b turned refl refl
+      part-law s p _ ws (place-number (r .place) ∷ r .data-word ∷ []) (alternation-words (r .alternation)) _
+      (progress-words (r .progress) ++ link-words s p) 2 4 low high refl refl (lit≤ tt) b turned refl refl
 
   -- words 6 to 19: progress
   pub put-progress : (v : Progress) (ws : List (ℕ × ℕ)) → T (below 14 (λ j. j) ws)
@@ -152,8 +132,13 @@ module _ (s : State) (p : ℕ) (low : 1 ≤ p) (high : p ≤ length (s .processe
       → writes ws (λ j. process-at (length (s .cores)) p (6 + j)) (pack s) ≡ pack (put progress p v s)
   put-progress v ws b turned =
       let r = process-of s p in
-      part-law s p _ ws (place-number (r .place) ∷ r .data-word ∷ alternation-words (r .alternation)) (progress-words (r .progress)) _ (link-words s p)
-      6 14 low high refl (length-progress-words (r .progress)) (lit≤ tt) b turned refl refl
+      part-law s p _ ws (place-number (r .place) ∷ r .data-word ∷ alternation-words (r .alternation)) (progress-words (r .progress)) _
+      (link-words s p) 6 14 low high refl (length-progress-words (r .progress)) (lit≤ tt) b turned refl refl
+
+-- What writes make of the words of a progress can be computed on those words written out.
+pub on-listed : (x : Progress) (ws : List (ℕ × ℕ)) {l : List ℕ}
+    → writes ws (λ j. j) (listed (progress-words x) 14) ≡ l → writes ws (λ j. j) (progress-words x) ≡ l
+on-listed x ws e = ap (writes ws (λ j. j)) (listed-same (progress-words x) 14 (length-progress-words x)) ∙ e
 
 -- Channels
 
@@ -162,7 +147,8 @@ abbrev pub with-channel : ℕ → Channel → State → State
 with-channel c r s = record { cores = s .cores; processes = s .processes; channels = set-nth (s .channels) c r }
 
 -- Writes that turn a channel's words into another's
-pub channel-law : (s : State) (c : ℕ) (r : Channel) (at : ℕ → ℕ) (ws : List (ℕ × ℕ)) → 1 ≤ c → c ≤ length (s .channels) → T (below 4 at ws)
+pub channel-law : (s : State) (c : ℕ) (r : Channel) (at : ℕ → ℕ) (ws : List (ℕ × ℕ))
+    → 1 ≤ c → c ≤ length (s .channels) → T (below 4 at ws)
     → writes ws at (channel-list (channel-of s c)) ≡ channel-list r
     → writes ws (λ f. channel-at (length (s .cores)) (length (s .processes)) c (at f)) (pack s) ≡ pack (with-channel c r s)
 unfolding process-words next-link head-link batch-link channel-words
@@ -172,7 +158,9 @@ channel-law s c r at ws low high b turned =
       header = λ f b′. ap (λ (l : List ℕ). getD l f 0) (same-header s (with-channel c r s) same-dims);
       core = λ i f b′ b″. refl;
       process = λ i f low′ b′ b″. refl;
-      channel = λ i f low′ b′ b″. in-block c i _ _ (λ x. getD (channel-list (channel-of (with-channel c r s) x)) f 0) (λ e. refl) (λ ne. ap (λ (x : Channel). getD (channel-list x) f 0) (sym (nth-set-other (s .channels) c i r no-channel ne)));
+      channel = λ i f low′ b′ b″.
+          in-block c i _ _ (λ x. getD (channel-list (channel-of (with-channel c r s) x)) f 0) (λ e. refl)
+          (λ ne. ap (λ (x : Channel). getD (channel-list x) f 0) (sym (nth-set-other (s .channels) c i r no-channel ne)));
     })
     (turned ∙ ap channel-list (sym (nth-set-same (s .channels) c r no-channel low high)))
   where
@@ -197,10 +185,23 @@ pub put-core : (s : State) (k : ℕ) (c : Core) (at : ℕ → ℕ) (ws : List (�
     → writes ws at (core-list (core-of s k)) ≡ core-list c
     → writes ws (λ f. core-at k (at f)) (pack s) ≡ pack (put core k c s)
 put-core s k c at ws inside b same-active same-batches turned =
-    held-last s k c (writes ws at (core-list (core-of s k))) (links-of s) _ inside (held-writes s k inside at ws b (held-first s k inside)) turned
+    held-last s k c (writes ws at (core-list (core-of s k))) (links-of s) _ inside
+    (held-writes s k inside at ws b (held-first s k inside)) turned
     (record {
       next = λ p low high. next-kept s k c inside p (ap₂ (λ a r. total (follows p) (a ∷ r)) same-active same-batches);
       batch-last = λ p low high. head-kept s k c inside last p (ap (total (if-head last p)) same-batches);
       batch-size = λ p low high. head-kept s k c inside length p (ap (total (if-head length p)) same-batches);
       next-head = λ p low high. next-head-kept s k c inside p (ap (λ r. follows p (heads r)) same-batches);
     })
+
+-- the same after that core was changed already, as by a change of its queues
+pub put-core-again : (s : State) (k : ℕ) (old new : Core) (at : ℕ → ℕ) (ws : List (ℕ × ℕ)) → k < length (s .cores) → T (below 16 at ws)
+    → old .active ≡ new .active → old .run-queue ≡ new .run-queue → writes ws at (core-list old) ≡ core-list new
+    → writes ws (λ f. core-at k (at f)) (pack (put core k old s)) ≡ pack (put core k new s)
+put-core-again s k old new at ws inside b same-active same-batches turned =
+    put-core (put core k old s) k new at ws (rw (length-set (s .cores) k old) inside) b (ap (λ (c : Core). c .active) here ∙ same-active)
+    (ap (λ (c : Core). c .run-queue) here ∙ same-batches) (ap (λ (c : Core). writes ws at (core-list c)) here ∙ turned)
+    ∙ ap (λ (l : List Core). pack (record { cores = l; processes = s .processes; channels = s .channels })) (set-set (s .cores) k old new)
+  where
+    here : core-of (put core k old s) k ≡ old
+    here = getD-set-same (s .cores) k old no-core inside
