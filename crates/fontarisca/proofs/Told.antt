@@ -1,0 +1,91 @@
+-- A call is its first refusals, then what its rule comes to; what the code tells of that is what the call's definition says.
+use Prim.Native.Nat.{ℕ, zero, suc, _<_}
+use mathlib.Core.Path.{_≡_, refl, sym, ap, ap₂, _∙_, subst}
+use mathlib.Core.Bool.{Bool, true, false}
+use mathlib.Core.List.{List}
+use native.Mathlib.Omega.{arith}
+use lib.Dec.{T, eqb, ltb}
+use lib.ListN.{length}
+use borrow.Author.Tests.{eqb-true, eqb-false, ltb-true, lt-ltb}
+use Rattle.rules.specs.Lists.{if_then_else_}
+use Rattle.rules.specs.Numbers.{
+  Answer, BUILT, TAKEN, MOVED, SLEPT, IDLE, GO, SENT, GOT, CHOSE, Refusal, SIZE, PAIRS, ROOM, NAME, SELF, ANSWER, DAMAGED, CORE, BUSY, AWAITED, GUARDS,
+  CHANNEL, OTHER-END, TWICE, FAULT, yes-with, no-because, words-of, number-of
+}
+use Rattle.rules.specs.State.{wiring}
+use Rattle.rules.specs.Rule.{Ran, accepted, refused, run}
+use Rattle.rules.specs.Packing.{view, K-of}
+use Rattle.rules.specs.Soundness.{sound}
+use Rattle.rules.specs.Calls.{Result, Ask, rule-of, outcome-of, call}
+use Rattle.answers.specs.Four.{four, words-after}
+use Rattle.answers.specs.declared.Reply.{Reply}
+use Rattle.parts.specs.Does.{Comes, Does}
+use Rattle.parts.proofs.Card.{K-is}
+use Rattle.fontarisca.specs.First.{first-refusal}
+
+-- an accepted call's words are written
+accepted-words : (a : Answer) (old : List ℕ) → words-after (four (yes-with a)) old ≡ words-of (yes-with a)
+accepted-words BUILT old = refl
+accepted-words (TAKEN p c) old = refl
+accepted-words MOVED old = refl
+accepted-words (SLEPT p) old = refl
+accepted-words IDLE old = refl
+accepted-words (GO p) old = refl
+accepted-words (SENT p c) old = refl
+accepted-words (GOT p c v) old = refl
+accepted-words (CHOSE p c) old = refl
+
+-- a refused call writes no words
+refused-words : (r : Refusal) (old : List ℕ) → words-after (four (no-because r)) old ≡ old
+refused-words SIZE old = refl
+refused-words PAIRS old = refl
+refused-words ROOM old = refl
+refused-words NAME old = refl
+refused-words SELF old = refl
+refused-words ANSWER old = refl
+refused-words DAMAGED old = refl
+refused-words CORE old = refl
+refused-words BUSY old = refl
+refused-words AWAITED old = refl
+refused-words GUARDS old = refl
+refused-words CHANNEL old = refl
+refused-words OTHER-END old = refl
+refused-words TWICE old = refl
+refused-words FAULT old = refl
+
+-- the number n, the answer words w and the table u are those of a result
+pub record Is (x : Result) (n : ℕ) (w u : List ℕ) : Type 0 where
+  pub number : n ≡ x .number
+  pub answer : w ≡ x .answer
+  pub table : u ≡ x .table
+
+-- what the code tells of what a rule came to
+told : (x : Ran Answer) (t answer u : List ℕ) (r : Reply) → Comes x t r u → Is (outcome-of t answer x) (r .number) (words-after r answer) u
+told (accepted a s) t answer u r h = record {
+  number = ap (λ (r : Reply). r .number) (h .0);
+  answer = ap (λ (r : Reply). words-after r answer) (h .0) ∙ accepted-words a answer;
+  table = h .1;
+}
+told (refused why) t answer u r h = record {
+  number = ap (λ (r : Reply). r .number) (h .0);
+  answer = ap (λ (r : Reply). words-after r answer) (h .0) ∙ refused-words why answer;
+  table = h .1;
+}
+
+module _ (t answer : List ℕ) (k : ℕ) (ask : Ask) where
+  -- a call that is refused first
+  pub refused-first : (n : ℕ) → first-refusal t answer k ≡ n → (n ≡ 0 → ⊥) → Is (call t answer k ask) n answer t
+  unfolding call
+  refused-first n e some = by-answer (eqb (length answer) 3) refl
+    where
+      by-core : (b : Bool) → ltb k (K-of t) ≡ b → eqb (length answer) 3 ≡ true → sound t ≡ true → Is (call t answer k ask) n answer t
+      by-core true f g h = absurd (some (sym e ∙ rw (g, h, f)))
+      by-core false f g h = rw (g, h, ?l) (record { number = sym e ∙ rw (g, h, f); answer = refl; table = refl })
+
+      by-sound : (b : Bool) → sound t ≡ b → eqb (length answer) 3 ≡ true → Is (call t answer k ask) n answer t
+      by-sound true h g = by-core (ltb k (K-of t)) refl g h
+      by-sound false h g = rw (g, h) (record { number = sym e ∙ rw (g, h); answer = refl; table = refl })
+
+      by-answer : (b : Bool) → eqb (length answer) 3 ≡ b → Is (call t answer k ask) n answer t
+      by-answer true g = by-sound (sound t) refl g
+      by-answer false g = rw g (record { number = sym e ∙ rw g; answer = refl; table = refl })
