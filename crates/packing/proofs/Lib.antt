@@ -2,6 +2,7 @@ pub mod Regions
 pub mod Blocks
 pub mod Tests
 pub mod ReadLaws
+pub mod States
 pub mod Focus
 pub mod QueueLists
 pub mod Links
