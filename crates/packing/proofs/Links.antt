@@ -13,7 +13,20 @@ use Rattle.rules.specs.Lists.{if_then_else_, total, bit, times, first, last, fo
 use Rattle.rules.specs.State.{Core, queues-of, State}
 use Rattle.rules.specs.Items.{core-of, process-of, no-core, put, core}
 use Rattle.rules.specs.SetUp.{room}
-use Rattle.rules.specs.Packing.{heads, if-head, next-link, head-link, batch-link, core-words, process-words, work-words, pack, core-at, process-at, channel-at}
+use Rattle.rules.specs.Packing.{
+  heads,
+  if-head,
+  next-link,
+  head-link,
+  batch-link,
+  core-words,
+  process-words,
+  work-words,
+  pack,
+  core-at,
+  process-at,
+  channel-at,
+}
 use Rattle.rules.specs.Soundness.{in-queues}
 use Rattle.packing.specs.Queues.{link-end, with-queues}
 use Rattle.packing.proofs.Regions.{Dims, Words, Holds, holds-set, written}

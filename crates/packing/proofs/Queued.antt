@@ -10,9 +10,36 @@ use lib.Seq.{getD-set-same, getD-set-other}
 use borrow.Author.Tests.{eqb-true, eqb-false}
 use Rattle.rules.specs.Lists.{within, all, total, from, bit, times}
 use Rattle.rules.specs.State.{Place, running, queued, asleep, ended, Core, queues-of, State, wiring}
-use Rattle.rules.specs.Items.{Kind, core, place, data-word, alternation, progress, channel-word, transfers, Val, no-core, core-of, process-of, put}
+use Rattle.rules.specs.Items.{
+  Kind,
+  core,
+  place,
+  data-word,
+  alternation,
+  progress,
+  channel-word,
+  transfers,
+  Val,
+  no-core,
+  core-of,
+  process-of,
+  put,
+}
 use Rattle.rules.specs.SetUp.{sizes}
-use Rattle.rules.specs.Soundness.{in-queues, on-cores, stands, word32, valid-progress, fits, valid-process, valid-work, not-empty, valid-core, valid-channel, valid}
+use Rattle.rules.specs.Soundness.{
+  in-queues,
+  on-cores,
+  stands,
+  word32,
+  valid-progress,
+  fits,
+  valid-process,
+  valid-work,
+  not-empty,
+  valid-core,
+  valid-channel,
+  valid,
+}
 use Rattle.packing.specs.Queues.{with-queues, Queued}
 use Rattle.packing.proofs.Tests.{both-left, both-right, both, all-at, all-append, all-one}
 use Rattle.packing.proofs.ReadLaws.{length-tabulate, getD-tabulate}

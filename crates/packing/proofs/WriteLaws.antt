@@ -8,15 +8,79 @@ use lib.ListN.{length, getD, set, length-set}
 use lib.Seq.{getD-set-same, getD-set-other, set-set}
 use Rattle.rules.specs.Lists.{nth, set-nth, total, follows, last}
 use Rattle.rules.specs.State.{Place, Alternation, Progress, Process, ChannelWord, Channel, Core, State}
-use Rattle.rules.specs.Items.{no-core, no-process, no-channel, core-of, process-of, channel-of, put, core, place, data-word, alternation, progress, channel-word, transfers}
-use Rattle.rules.specs.Packing.{place-number, word-number, heads, if-head, core-at, core-words, progress-words, next-link, head-link, batch-link, process-words, channel-words, pack, process-at, channel-at}
+use Rattle.rules.specs.Items.{
+  no-core,
+  no-process,
+  no-channel,
+  core-of,
+  process-of,
+  channel-of,
+  put,
+  core,
+  place,
+  data-word,
+  alternation,
+  progress,
+  channel-word,
+  transfers,
+}
+use Rattle.rules.specs.Packing.{
+  place-number,
+  word-number,
+  heads,
+  if-head,
+  core-at,
+  core-words,
+  progress-words,
+  next-link,
+  head-link,
+  batch-link,
+  process-words,
+  channel-words,
+  pack,
+  process-at,
+  channel-at,
+}
 use Rattle.packing.proofs.Regions.{Same}
-use Rattle.packing.proofs.Blocks.{dims, words-of, pack-holds, length-core-words, length-process-words, length-channel-words, length-progress-words}
+use Rattle.packing.proofs.Blocks.{
+  dims,
+  words-of,
+  pack-holds,
+  length-core-words,
+  length-process-words,
+  length-channel-words,
+  length-progress-words,
+}
 use Rattle.packing.proofs.Links.{links-of, held-first, held-writes, held-last, next-kept, head-kept, next-head-kept}
-use Rattle.packing.proofs.ReadLaws.{listed, listed-same, core-list, alternation-words, own-words, link-words, channel-list, process-split}
+use Rattle.packing.proofs.ReadLaws.{
+  listed,
+  listed-same,
+  core-list,
+  alternation-words,
+  own-words,
+  link-words,
+  channel-list,
+  process-split,
+}
 use Rattle.packing.proofs.Tests.{here-or-there}
 use Rattle.packing.proofs.States.{with-process, with-channel, dims-process, dims-channel, packed, same-header}
-use Rattle.packing.proofs.Focus.{Region, cores, processes, channels, size-in, Has, address, words-in, focus, focus-start, focus-writes, writes, below, writes-inside, below-shifted}
+use Rattle.packing.proofs.Focus.{
+  Region,
+  cores,
+  processes,
+  channels,
+  size-in,
+  Has,
+  address,
+  words-in,
+  focus,
+  focus-start,
+  focus-writes,
+  writes,
+  below,
+  writes-inside,
+  below-shifted,
+}
 
 -- the words of a block of a state
 abbrev pub block-words : Region → State → ℕ → List ℕ
