@@ -1,6 +1,6 @@
 -- A table whose words are known but for one block in focus, a list: what it holds after words of that block are written.
 use Prim.Native.Nat.{ℕ, suc, _+_, _≤_, _<_}
-use mathlib.Core.Path.{_≡_, refl, sym, ap, _∙_, subst}
+use mathlib.Core.Path.{_≡_, refl, sym, ap, _∙_}
 use mathlib.Core.Bool.{Bool, true, false}
 use mathlib.Core.List.{List, [], _∷_, _++_}
 use native.Mathlib.Omega.{arith}
@@ -11,11 +11,9 @@ use lib.Seq.{set-append-left}
 use borrow.Author.Tests.{eqb-true, eqb-false, lt-ltb, ne-eqb}
 use Rattle.rules.specs.Lists.{if_then_else_, all}
 use Rattle.rules.specs.SetUp.{room}
-use Rattle.rules.specs.State.{State}
-use Rattle.rules.specs.Packing.{header-words, pack, core-at, process-at, channel-at}
-use Rattle.packing.proofs.Tests.{same-test, apart, in-block, both-left, both-right}
-use Rattle.packing.proofs.Regions.{Dims, Words, Holds, Same, getD-set, holds-set, held-once, written}
-use Rattle.packing.proofs.Blocks.{dims, words-of, pack-holds}
+use Rattle.rules.specs.Packing.{core-at, process-at, channel-at}
+use Rattle.packing.proofs.Tests.{same-test, apart, here-or-there, both-left, both-right}
+use Rattle.packing.proofs.Regions.{Dims, Words, Holds, Same, getD-set, holds-set, written}
 
 -- Several writes
 
@@ -134,7 +132,7 @@ module _ (d : Dims) (w : Words) (j f v : ℕ) (l : List ℕ) (inside : f < lengt
       record {
         header = λ g b′. apart g (core-at j f) v _ (λ e. omega arith);
         core = λ i g b′ b″.
-          block-set j f v l (w .core) i g (core-at i g) (core-at j f) inside (λ e. omega arith) (λ e. omega arith) (λ e e′. omega arith);
+            block-set j f v l (w .core) i g (core-at i g) (core-at j f) inside (λ e. omega arith) (λ e. omega arith) (λ e e′. omega arith);
         process = λ p g low b′ b″. apart (process-at (d .K) p g) (core-at j f) v _ (λ e. omega arith);
         channel = λ c g low b′ b″. apart (channel-at (d .K) (d .N) c g) (core-at j f) v _ (λ e. omega arith);
       }
@@ -144,7 +142,7 @@ module _ (d : Dims) (w : Words) (j f v : ℕ) (l : List ℕ) (inside : f < lengt
         header = λ g b′. apart g a v _ (λ e. omega arith);
         core = λ i g b′ b″. apart (core-at i g) a v _ (λ e. omega arith);
         process = λ i g low b′ b″.
-          block-set j f v l (w .process) i g (process-at (d .K) i g) a inside (λ e. omega arith) (λ e. omega arith) (λ e e′. omega arith);
+            block-set j f v l (w .process) i g (process-at (d .K) i g) a inside (λ e. omega arith) (λ e. omega arith) (λ e e′. omega arith);
         channel = λ c g low b′ b″. apart (channel-at (d .K) (d .N) c g) a v _ (λ e. omega arith);
       }
   same-set channels h b =
@@ -154,7 +152,8 @@ module _ (d : Dims) (w : Words) (j f v : ℕ) (l : List ℕ) (inside : f < lengt
         core = λ i g b′ b″. apart (core-at i g) a v _ (λ e. omega arith);
         process = λ i g low b′ b″. apart (process-at (d .K) i g) a v _ (λ e. omega arith);
         channel = λ i g low b′ b″.
-          block-set j f v l (w .channel) i g (channel-at (d .K) (d .N) i g) a inside (λ e. omega arith) (λ e. omega arith) (λ e e′. omega arith);
+            block-set j f v l (w .channel) i g (channel-at (d .K) (d .N) i g) a inside
+            (λ e. omega arith) (λ e. omega arith) (λ e e′. omega arith);
       }
 
   -- its address lies in the table
@@ -176,7 +175,7 @@ pub focus-start : (r : Region) (d : Dims) (w : Words) (j : ℕ) (l t : List ℕ)
 focus-start r d w j l t e h = holds-same d w (focus r j l w) t (same r e) h
   where
     at-block : (W : ℕ → ℕ → ℕ) → ((f : ℕ) → W j f ≡ getD l f 0) → (i f : ℕ) → W i f ≡ block j l W i f
-    at-block W e i f = sym (in-block j i (getD l f 0) (W i f) (λ i. W i f) (λ q. sym (e f)) (λ ne. refl))
+    at-block W e i f = sym (here-or-there j i (getD l f 0) (W i f) (λ i. W i f) (λ q. sym (e f)) (λ ne. refl))
 
     same : (r : Region) → ((f : ℕ) → words-in r w j f ≡ getD l f 0) → Same d w (focus r j l w)
     same cores e =
@@ -211,15 +210,3 @@ focus-writes r d w j at (x ∷ ws) l t h e b held =
     let rest : T (below (size-in r) at ws) = both-right (ltb (at (x .0)) (size-in r)) _ b in
     focus-writes r d w j at ws (set l (at (x .0)) (x .1)) _ h (length-set l (at (x .0)) (x .1) ∙ e) rest
     (focus-set d w j (at (x .0)) (x .1) l (omega arith) r t h low held)
-
--- States
-
--- a table that holds the words of a state is its packing
-pub packed : (s s′ : State) (w : Words) (t : List ℕ) → dims s′ ≡ dims s → Holds (dims s) w t → Same (dims s) w (words-of s′) → t ≡ pack s′
-packed s s′ w t e h same =
-    held-once (dims s) w (words-of s′) t (pack s′) h (subst (λ (d : Dims). Holds d (words-of s′) (pack s′)) e (pack-holds s′)) same
-
--- the header has only the numbers of cores, processes and channels
-pub same-header : (s s′ : State) → dims s′ ≡ dims s → header-words s ≡ header-words s′
-unfolding header-words
-same-header s s′ e = ap (λ (d : Dims). d .K ∷ d .N ∷ d .M ∷ 0 ∷ 0 ∷ 0 ∷ 0 ∷ 0 ∷ []) (sym e)

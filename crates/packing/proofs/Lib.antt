@@ -11,6 +11,7 @@ pub mod ViewChannel
 pub mod Means
 pub mod Tests
 pub mod ReadLaws
+pub mod States
 pub mod Focus
 pub mod QueueLists
 pub mod Links

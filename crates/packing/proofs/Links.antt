@@ -6,21 +6,35 @@ use mathlib.Core.Bool.{Bool, true, false, _&&_}
 use mathlib.Core.List.{List, [], _∷_, _++_}
 use native.Mathlib.Omega.{arith}
 use lib.Dec.{T, eqb, ltb, leb, leb→le, ltb→lt}
-use lib.ListN.{length, getD, set, length-set}
+use lib.ListN.{length, getD, set}
 use lib.Seq.{getD-set-same, getD-set-other, set-getD}
 use borrow.Author.Tests.{eqb-true, eqb-false, ltb-true, ltb-false}
 use Rattle.rules.specs.Lists.{if_then_else_, total, bit, times, first, last, follows}
 use Rattle.rules.specs.State.{Core, queues-of, State}
 use Rattle.rules.specs.Items.{core-of, process-of, no-core, put, core}
 use Rattle.rules.specs.SetUp.{room}
-use Rattle.rules.specs.Packing.{heads, if-head, next-link, head-link, batch-link, core-words, process-words, work-words, pack, core-at, process-at, channel-at}
+use Rattle.rules.specs.Packing.{
+  heads,
+  if-head,
+  next-link,
+  head-link,
+  batch-link,
+  core-words,
+  process-words,
+  work-words,
+  pack,
+  core-at,
+  process-at,
+  channel-at,
+}
 use Rattle.rules.specs.Soundness.{in-queues}
 use Rattle.packing.specs.Queues.{link-end, with-queues}
 use Rattle.packing.proofs.Regions.{Dims, Words, Holds, holds-set, written}
 use Rattle.packing.proofs.Blocks.{dims, words-of, pack-holds, length-progress-words, first-part, second-part}
 use Rattle.packing.proofs.ReadLaws.{own-words, link-words, process-split, listed, core-list, core-listed}
-use Rattle.packing.proofs.Tests.{by-test, same-test, apart, in-block, both-left, both-right, both}
-use Rattle.packing.proofs.Focus.{writes, below, cores, focus, focus-writes, length-writes, focus-start, holds-same, packed, same-header}
+use Rattle.packing.proofs.Tests.{by-test, same-test, apart, here-or-there, both-left, both-right, both}
+use Rattle.packing.proofs.States.{dims-core, packed, same-header}
+use Rattle.packing.proofs.Focus.{writes, below, cores, focus, focus-writes, length-writes, focus-start, holds-same}
 use Rattle.packing.proofs.QueueLists.{total-set, total-alone, no-next, no-head, no-next-head}
 
 -- Links as words 20 to 23 of processes
@@ -120,7 +134,7 @@ module _ (s : State) (k : ℕ) (inside : k < length (s .cores)) where
     held-core f v b h = held-writes (λ j. j) ((f, v) ∷ []) (both (ltb f 16) true b tt) h
 
     -- the link at word f of process p is written
-    pub held-link : (f p v : ℕ) → T (leb 20 f && ltb f 24) → 1 ≤ p → p ≤ length (s .processes)
+    held-link : (f p v : ℕ) → T (leb 20 f && ltb f 24) → 1 ≤ p → p ≤ length (s .processes)
         → Held s k l L t → Held s k l (write-link f p v L) (set t (process-at (length (s .cores)) p f) v)
     held-link f p v b low high h =
         let from : 20 ≤ f = leb→le 20 f (both-left (leb 20 f) (ltb f 24) b) in
@@ -177,10 +191,10 @@ linked-word n L s h p (suc (suc (suc (suc j)))) low high b = absurd (omega arith
 pub held-last : (s : State) (k : ℕ) (c : Core) (l : List ℕ) (L : ℕ → ℕ → ℕ) (t : List ℕ) → k < length (s .cores) → Held s k l L t
     → l ≡ core-list c → Linked (length (s .processes)) L (put core k c s) → t ≡ pack (put core k c s)
 held-last s k c l L t inside h e linked =
-    packed s s′ _ t same-dims (h .held)
+    packed s s′ _ t (dims-core k c s) (h .held)
     (record {
-      header = λ f b. ap (λ (l : List ℕ). getD l f 0) (same-header s s′ same-dims);
-      core = λ i f b b′. in-block k i _ _ (λ x. getD (core-words (core-of s′ x)) f 0) (λ q. ap (λ (l : List ℕ). getD l f 0) here)
+      header = λ f b. ap (λ (l : List ℕ). getD l f 0) (same-header s s′ (dims-core k c s));
+      core = λ i f b b′. here-or-there k i _ _ (λ x. getD (core-words (core-of s′ x)) f 0) (λ q. ap (λ (l : List ℕ). getD l f 0) here)
           (λ ne. ap (λ (x : Core). getD (core-words x) f 0) (sym (getD-set-other (s .cores) k i c no-core ne)));
       process = λ p f low b b′.
           by-test (ltb f 20) (λ q. own-word s p f (ltb-true f 20 q) ∙ sym (own-word s′ p f (ltb-true f 20 q)))
@@ -190,9 +204,6 @@ held-last s k c l L t inside h e linked =
   where
     s′ : State
     s′ = put core k c s
-
-    same-dims : dims s′ ≡ dims s
-    same-dims = ap (λ (n : ℕ). record { K = n; N = length (s .processes); M = length (s .channels) }) (length-set (s .cores) k c)
 
     here : l ≡ core-words (core-of s′ k)
     here = e ∙ sym (core-listed c) ∙ ap core-words (sym (getD-set-same (s .cores) k c no-core inside))
@@ -233,6 +244,12 @@ pub record Stands (s : State) (k p : ℕ) : Type 0 where
   pub once : in-queues s p ≤ 1
   pub here : 1 ≤ times-in p (core-of s k)
   pub at-most : times-in p (core-of s k) ≤ 1
+
+-- a link of such a process is written
+pub held-own : (s : State) (k : ℕ) (inside : k < length (s .cores)) (f p v : ℕ) {l : List ℕ} {L : ℕ → ℕ → ℕ} {t : List ℕ}
+    → T (leb 20 f && ltb f 24) → Stands s k p → Held s k l L t
+    → Held s k l (write-link f p v L) (set t (process-at (length (s .cores)) p f) v)
+held-own s k inside f p v b stands h = held-link s k inside f p v b (stands .low) (stands .high) h
 
 module _ (s : State) (k : ℕ) (c : Core) (inside : k < length (s .cores)) where
   -- a sum over the cores keeps its value where the core's share keeps its

@@ -11,30 +11,44 @@ use Rattle.rules.specs.Items.{core-of, put, core}
 use Rattle.rules.specs.Packing.{heads, if-head, word-at, process-at, core-at, head-link, batch-link, pack}
 use Rattle.packing.specs.Queues.{load-writes, load-table, with-queues, Queued}
 use Rattle.packing.proofs.ReadLaws.{read-core, read-process}
-use Rattle.packing.proofs.Tests.{in-block, both-right}
+use Rattle.packing.proofs.Tests.{here-or-there, both-right}
 use Rattle.packing.proofs.QueueLists.{follows-first, follows-rest, if-head-first, if-head-other, no-head, no-next-head}
-use Rattle.packing.proofs.Links.{held-first, held-core, held-link, held-last, queue-entries, Stands, next-kept, head-kept, next-head-kept, head-alone, next-head-alone}
+use Rattle.packing.proofs.Links.{
+  held-first,
+  held-core,
+  held-own,
+  held-last,
+  queue-entries,
+  Stands,
+  next-kept,
+  head-kept,
+  next-head-kept,
+  head-alone,
+  next-head-alone,
+}
 use Rattle.packing.proofs.Standing.{core-heads-among, last-rest, first-head-stands, first-head-once}
 
--- a batch with a first process p
 module _ (s : State) (k p : ℕ) (more : List ℕ) (rest : List (List ℕ)) (inside : k < length (s .cores)) (queued : Queued s)
     (e : core-of s k .active ≡ []) (e′ : core-of s k .run-queue ≡ (p ∷ more) ∷ rest) where
+  -- the law below for a batch with the first process p
   load-first : load-table (pack s) (length (s .cores)) k ≡ pack (put core k (with-queues (p ∷ more) rest (core-of s k)) s)
   load-first =
-      ap (λ x. load-writes x (word-at t (process-at K x 21)) (word-at t (process-at K x 22)) (word-at t (process-at K x 23)) (word-at t (core-at k 9)) t K k)
+      ap (λ x. load-writes x (word-at t (process-at K x 21)) (word-at t (process-at K x 22)) (word-at t (process-at K x 23))
+      (word-at t (core-at k 9)) t K k)
       (read-core s k 8 inside (lit< tt) ∙ ap (λ r. first (heads r)) e′)
-      ∙ (λ i. load-writes p (last-read i) (size-read i) (next-head-read i) ((read-core s k 9 inside (lit< tt) ∙ ap (λ r. last (heads r)) e′) i) t K k)
+      ∙ (λ i. load-writes p (last-read i) (size-read i) (next-head-read i)
+      ((read-core s k 9 inside (lit< tt) ∙ ap (λ r. last (heads r)) e′) i) t K k)
       ∙ held-last s k c′ _ _ _ inside
-      (held-link s k inside 23 p 0 tt (stands .low) (stands .high) (held-link s k inside 22 p 0 tt (stands .low) (stands .high)
-      (held-link s k inside 21 p 0 tt (stands .low) (stands .high) (held-core s k inside 9 _ tt (held-core s k inside 8 _ tt
-      (held-core s k inside 5 _ tt (held-core s k inside 4 _ tt (held-core s k inside 3 p tt (held-first s k inside)))))))))
+      (held-own s k inside 23 p 0 tt stands (held-own s k inside 22 p 0 tt stands (held-own s k inside 21 p 0 tt stands
+      (held-core s k inside 9 _ tt (held-core s k inside 8 _ tt (held-core s k inside 5 _ tt (held-core s k inside 4 _ tt
+      (held-core s k inside 3 p tt (held-first s k inside)))))))))
       (queue-entries c (p ∷ more) rest refl refl refl refl (last-rest _ p (heads rest) among))
       (record {
         next = λ i low high. next-kept s k c′ inside i (omega (arith, ap (follows i) e, ap (total (follows i)) e′));
         batch-last = λ i low high. head-moved last i;
         batch-size = λ i low high. head-moved length i;
         next-head = λ i low high.
-            in-block p i 0 _ (λ i. batch-link (put core k c′ s) i)
+            here-or-there p i 0 _ (λ i. batch-link (put core k c′ s) i)
             (λ z. sym (next-head-alone s k c′ inside p stands ∙ no-next-head p rest (stands .low) none))
             (λ ne. next-head-kept s k c′ inside i (ap (λ r. follows i (heads r)) e′ ∙ follows-rest i p (heads rest) ne));
       })
@@ -66,6 +80,7 @@ module _ (s : State) (k p : ℕ) (more : List ℕ) (rest : List (List ℕ)) (ins
           head-kept s k c inside f p refl ∙ head-alone s k c inside p stands f
           ∙ omega (arith, ap (total (if-head f p)) e′, if-head-first f p more, no-head f p rest (stands .low) none)
 
+      -- what is read of it in the table
       last-read : word-at t (process-at K p 21) ≡ last (p ∷ more)
       last-read = read-process s p 21 (stands .low) (stands .high) (lit< tt) ∙ kept last
 
@@ -83,10 +98,11 @@ module _ (s : State) (k p : ℕ) (more : List ℕ) (rest : List (List ℕ)) (ins
       -- it keeps nothing any more
       head-moved : (f : List ℕ → ℕ) (i : ℕ) → (if eqb i p then 0 else head-link f s i) ≡ head-link f (put core k c′ s) i
       head-moved f i =
-          in-block p i 0 _ (λ i. head-link f (put core k c′ s) i)
+          here-or-there p i 0 _ (λ i. head-link f (put core k c′ s) i)
           (λ z. sym (head-alone s k c′ inside p stands f ∙ no-head f p rest (stands .low) none))
           (λ ne. head-kept s k c′ inside f i (omega (arith, ap (total (if-head f i)) e′, if-head-other f i p more ne)))
 
+-- The writes of a load on a packing give the packing of the state in which core k's first batch is its active queue.
 pub load-law : (s : State) (k : ℕ) (batch : List ℕ) (rest : List (List ℕ)) → k < length (s .cores) → Queued s
     → core-of s k .active ≡ [] → core-of s k .run-queue ≡ batch ∷ rest
     → load-table (pack s) (length (s .cores)) k ≡ pack (put core k (with-queues batch rest (core-of s k)) s)

@@ -11,21 +11,34 @@ use Rattle.rules.specs.Items.{core-of, put, core}
 use Rattle.rules.specs.Packing.{next-link, pack}
 use Rattle.packing.specs.Queues.{push-writes, push-table, with-queues, Queued}
 use Rattle.packing.proofs.ReadLaws.{read-core}
-use Rattle.packing.proofs.Tests.{in-block}
+use Rattle.packing.proofs.Tests.{here-or-there}
 use Rattle.packing.proofs.QueueLists.{follows-more, follows-last, last-append, times-last, no-next}
-use Rattle.packing.proofs.Links.{queue-entries, held-first, held-core, held-end, held-last, Stands, next-kept, head-kept, next-head-kept, next-alone}
+use Rattle.packing.proofs.Links.{
+  queue-entries,
+  held-first,
+  held-core,
+  held-end,
+  held-last,
+  Stands,
+  next-kept,
+  head-kept,
+  next-head-kept,
+  next-alone,
+}
 use Rattle.packing.proofs.Standing.{active-among, last-bound, first-more, last-stands}
 
+-- The writes of a push on a packing give the packing of the state in which q stands at the end of core k's active queue.
 pub push-law : (s : State) (k q : ℕ) → k < length (s .cores) → Queued s
     → push-table (pack s) (length (s .cores)) k q
     ≡ pack (put core k (with-queues (core-of s k .active ++ (q ∷ [])) (core-of s k .run-queue) (core-of s k)) s)
 push-law s k q inside queued =
     ap₂ (λ l n. push-writes l n (pack s) (length (s .cores)) k q) (read-core s k 4 inside (lit< tt)) (read-core s k 5 inside (lit< tt))
     ∙ held-last s k c′ _ _ _ inside
-    (held-core s k inside 5 (length l + 1) tt (held-core s k inside 4 q tt (held-end s k inside 3 20 a q tt tt bound (held-first s k inside))))
+    (held-core s k inside 5 (length l + 1) tt (held-core s k inside 4 q tt
+    (held-end s k inside 3 20 a q tt tt bound (held-first s k inside))))
     (queue-entries c (l ++ (q ∷ [])) r (first-more _ q l [] among) (sym (last-append l q [])) (sym (length-append l (q ∷ []))) refl refl)
     (record {
-      next = λ p low high. in-block a p q _ (λ p. next-link (put core k c′ s) p) (λ e. sym (linked (omega arith)))
+      next = λ p low high. here-or-there a p q _ (λ p. next-link (put core k c′ s) p) (λ e. sym (linked (omega arith)))
           (λ ne. next-kept s k c′ inside p (ap (λ n. n + total (follows p) r) (sym (follows-more p q l ne))));
       batch-last = λ p low high. head-kept s k c′ inside last p refl;
       batch-size = λ p low high. head-kept s k c′ inside length p refl;
@@ -50,6 +63,7 @@ push-law s k q inside queued =
     among : T (all (within 1 (length (s .processes))) l)
     among = active-among s k inside queued
 
+    -- the last one's number has an address, and q follows it
     bound : a ≤ length (s .processes)
     bound = last-bound _ l among
 

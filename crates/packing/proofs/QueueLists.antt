@@ -1,7 +1,6 @@
 -- Queues as lists: what follows a number, how often it stands there, and sums over lists.
 use Prim.Native.Nat.{ℕ, zero, suc, _+_, _≤_, _<_}
 use mathlib.Core.Path.{_≡_, refl, sym, ap}
-use mathlib.Core.Bool.{true}
 use mathlib.Core.List.{List, [], _∷_, _++_}
 use native.Mathlib.Omega.{arith}
 use native.Mathlib.Nat.{zero-add}
@@ -21,6 +20,7 @@ module _ {A : Type 0} where
   total-set f (x ∷ l) zero a d h = omega arith
   total-set f (x ∷ l) (suc k) a d h = omega (arith, total-set f l k a d (omega arith))
 
+  -- a sum over two lists
   pub total-append : (f : A → ℕ) (l m : List A) → total f (l ++ m) ≡ total f l + total f m
   total-append f [] m = sym (zero-add (total f m))
   total-append f (x ∷ l) m = omega (arith, total-append f l m)
@@ -47,19 +47,18 @@ module _ {A : Type 0} where
 
 -- How often a number stands in a list
 
+-- as often as in both parts
 pub times-append : (p : ℕ) (l m : List ℕ) → times p (l ++ m) ≡ times p l + times p m
 times-append p l m = total-append (λ x. bit (eqb x p)) l m
 
+-- once more with p in front
 pub times-again : (p : ℕ) (l : List ℕ) → times p (p ∷ l) ≡ 1 + times p l
 times-again p l = rw (eq-eqb p p refl)
 
--- the first of a list stands there, and so does the last
-pub times-first : (p x : ℕ) (l : List ℕ) → eqb x p ≡ true → 1 ≤ times p (x ∷ l)
-times-first p x l e = rw e (omega arith)
-
+-- the last of a list stands there
 pub times-last : (l : List ℕ) → 1 ≤ last l → 1 ≤ times (last l) l
 times-last [] h = absurd (omega arith)
-times-last (x ∷ []) h = times-first x x [] (eq-eqb x x refl)
+times-last (x ∷ []) h = omega (arith, times-again x [])
 times-last (x ∷ (y ∷ l)) h = omega (arith, times-last (y ∷ l) h)
 
 -- What follows a number
@@ -78,6 +77,7 @@ follows-single p q = by-test (eqb q p) (λ e. refl) (λ e. refl)
 pub follows-rest : (p x : ℕ) (l : List ℕ) → (p ≡ x → ⊥) → follows p (x ∷ l) ≡ follows p l
 follows-rest p x l ne = rw (ne-eqb x p (λ e. ne (sym e)))
 
+-- behind the first it is the first of the others
 pub follows-first : (p : ℕ) (l : List ℕ) → follows p (p ∷ l) ≡ first l
 follows-first p l = rw (eq-eqb p p refl)
 
@@ -95,6 +95,7 @@ follows-last q (x ∷ (y ∷ l)) h once =
     let before : x ≡ last (y ∷ l) → ⊥ = λ e. omega (arith, ap bit (eq-eqb x (last (y ∷ l)) e), times-last (y ∷ l) h) in
     rw (ne-eqb x (last (y ∷ l)) before) (follows-last q (y ∷ l) h (omega arith))
 
+-- the last of two lists is that of the second
 pub last-append : (l : List ℕ) (x : ℕ) (m : List ℕ) → last (l ++ (x ∷ m)) ≡ last (x ∷ m)
 last-append [] x m = refl
 last-append (y ∷ []) x m = refl
@@ -102,11 +103,12 @@ last-append (y ∷ (z ∷ l)) x m = last-append (z ∷ l) x m
 
 -- Heads
 
+-- the heads of two lists of batches
 pub heads-append : (l m : List (List ℕ)) → heads (l ++ m) ≡ heads l ++ heads m
 heads-append [] m = refl
 heads-append (x ∷ l) m = ap (λ (h : List ℕ). first x ∷ h) (heads-append l m)
 
--- what a head keeps of its batch, and another process of it
+-- what a head keeps of its batch, and another process of it, which is nothing
 pub if-head-first : (f : List ℕ → ℕ) (p : ℕ) (l : List ℕ) → if-head f p (p ∷ l) ≡ f (p ∷ l)
 if-head-first f p l = rw (eq-eqb p p refl)
 
@@ -124,11 +126,12 @@ times-heads p [] low = omega arith
 times-heads p ([] ∷ batches) low = rw (ne-eqb 0 p (λ e. omega arith)) (omega (arith, times-heads p batches low))
 times-heads p ((x ∷ l) ∷ batches) low = omega (arith, times-heads p batches low)
 
--- a process that stands in no batch has no link there
+-- a process that stands in no batch has no link there: none follows, none of a batch as its head, and no head behind it
 pub no-next : (p : ℕ) (batches : List (List ℕ)) → total (times p) batches ≡ 0 → total (follows p) batches ≡ 0
 no-next p batches h = total-none (times p) (follows p) batches (follows-none p) h
 
-pub no-head : (f : List ℕ → ℕ) (p : ℕ) (batches : List (List ℕ)) → 1 ≤ p → total (times p) batches ≡ 0 → total (if-head f p) batches ≡ 0
+pub no-head : (f : List ℕ → ℕ) (p : ℕ) (batches : List (List ℕ)) → 1 ≤ p → total (times p) batches ≡ 0
+    → total (if-head f p) batches ≡ 0
 no-head f p batches low h = total-none (times p) (if-head f p) batches (λ l e. if-head-none f p l low e) h
 
 pub no-next-head : (p : ℕ) (batches : List (List ℕ)) → 1 ≤ p → total (times p) batches ≡ 0 → follows p (heads batches) ≡ 0

@@ -10,13 +10,41 @@ use lib.Seq.{getD-set-same, getD-set-other}
 use borrow.Author.Tests.{eqb-true, eqb-false}
 use Rattle.rules.specs.Lists.{within, all, total, from, bit, times}
 use Rattle.rules.specs.State.{Place, running, queued, asleep, ended, Core, queues-of, State, wiring}
-use Rattle.rules.specs.Items.{Kind, core, place, data-word, alternation, progress, channel-word, transfers, Val, no-core, core-of, process-of, put}
+use Rattle.rules.specs.Items.{
+  Kind,
+  core,
+  place,
+  data-word,
+  alternation,
+  progress,
+  channel-word,
+  transfers,
+  Val,
+  no-core,
+  core-of,
+  process-of,
+  put,
+}
 use Rattle.rules.specs.SetUp.{sizes}
-use Rattle.rules.specs.Soundness.{in-queues, on-cores, stands, word32, valid-progress, fits, valid-process, valid-work, not-empty, valid-core, valid-channel, valid}
+use Rattle.rules.specs.Soundness.{
+  in-queues,
+  on-cores,
+  stands,
+  word32,
+  valid-progress,
+  fits,
+  valid-process,
+  valid-work,
+  not-empty,
+  valid-core,
+  valid-channel,
+  valid,
+}
 use Rattle.packing.specs.Queues.{with-queues, Queued}
 use Rattle.packing.proofs.Tests.{both-left, both-right, both, all-at, all-append, all-one}
 use Rattle.packing.proofs.ReadLaws.{length-tabulate, getD-tabulate}
-use Rattle.packing.proofs.WriteLaws.{length-set-nth}
+use Rattle.packing.proofs.Regions.{Dims}
+use Rattle.packing.proofs.States.{dims-put}
 use Rattle.packing.proofs.QueueLists.{total-set, total-append, times-append}
 use Rattle.packing.proofs.Links.{times-in}
 use Rattle.packing.proofs.Standing.{active-among, batches-among}
@@ -30,6 +58,7 @@ once-where cores queues queued h = omega (arith, eqb→eq queues 1 (both-right (
 once-where cores queues asleep h = omega (arith, eqb→eq queues 0 (both-right (eqb cores 0) (eqb queues 0) h))
 once-where cores queues ended h = omega (arith, eqb→eq queues 0 (both-right (eqb cores 0) (eqb queues 0) h))
 
+-- A valid state has its queues in order.
 pub valid-queued : (s : State) → T (valid s) → Queued s
 unfolding valid valid-core valid-process
 valid-queued s h =
@@ -70,8 +99,9 @@ valid-queued s h =
         let test : T (valid-process s (getD (from 1 n) (p - 1) 0)) =
         all-at (valid-process s) (from 1 n) (p - 1) 0 (omega (arith, length-tabulate (λ i. i) 1 n))
         (both-right (size-tests && core-tests) process-tests no-channels) in
-        both-right (word32 (r .data-word) && leb (r .alternation .count) 9 && valid-progress (wiring s) p (r .progress) && fits (r .place) (r .progress)) _
-        (rw here at test)
+        both-right
+        (word32 (r .data-word) && leb (r .alternation .count) 9 && valid-progress (wiring s) p (r .progress) && fits (r .place) (r .progress))
+        _ (rw here at test)
 
 -- Other items
 
@@ -80,11 +110,14 @@ queued-same : (s s′ : State) → s .cores ≡ s′ .cores → length (s .proce
 unfolding in-queues
 queued-same s s′ e e′ h =
     record {
-      members = subst₂ (λ (l : List Core) (n : ℕ). (k : ℕ) → k < length l → T (all (all (within 1 n)) (queues-of (getD l k no-core)))) e e′ (h .members);
+      members =
+          subst₂ (λ (l : List Core) (n : ℕ). (k : ℕ) → k < length l → T (all (all (within 1 n)) (queues-of (getD l k no-core)))) e e′
+          (h .members);
       batches = subst (λ (l : List Core). (k : ℕ) → k < length l → T (all not-empty (getD l k no-core .run-queue))) e (h .batches);
       once = subst₂ (λ (l : List Core) (n : ℕ). (p : ℕ) → 1 ≤ p → p ≤ n → total (times-in p) l ≤ 1) e e′ (h .once);
     }
 
+-- any kind of item but a core
 abbrev not-core : Kind → Bool
 not-core core = false
 not-core place = true
@@ -97,23 +130,25 @@ not-core transfers = true
 -- Every item but a core leaves the queues in order.
 pub queued-put : (x : Kind) (i : ℕ) (v : Val x) (s : State) → T (not-core x) → Queued s → Queued (put x i v s)
 queued-put core i v s other h = absurd other
-queued-put place i v s other h = queued-same s _ refl (sym (length-set-nth (s .processes) i _)) h
-queued-put data-word i v s other h = queued-same s _ refl (sym (length-set-nth (s .processes) i _)) h
-queued-put alternation i v s other h = queued-same s _ refl (sym (length-set-nth (s .processes) i _)) h
-queued-put progress i v s other h = queued-same s _ refl (sym (length-set-nth (s .processes) i _)) h
-queued-put channel-word i v s other h = queued-same s _ refl refl h
-queued-put transfers i v s other h = queued-same s _ refl refl h
+queued-put place i v s other h = queued-same s _ refl (ap (λ (d : Dims). d .N) (sym (dims-put place i v s))) h
+queued-put data-word i v s other h = queued-same s _ refl (ap (λ (d : Dims). d .N) (sym (dims-put data-word i v s))) h
+queued-put alternation i v s other h = queued-same s _ refl (ap (λ (d : Dims). d .N) (sym (dims-put alternation i v s))) h
+queued-put progress i v s other h = queued-same s _ refl (ap (λ (d : Dims). d .N) (sym (dims-put progress i v s))) h
+queued-put channel-word i v s other h = queued-same s _ refl (ap (λ (d : Dims). d .N) (sym (dims-put channel-word i v s))) h
+queued-put transfers i v s other h = queued-same s _ refl (ap (λ (d : Dims). d .N) (sym (dims-put transfers i v s))) h
 
 -- Queues
 
 module _ (s : State) (k : ℕ) (inside : k < length (s .cores)) (h : Queued s) where
   -- another core leaves the queues in order if its own are, and no process stands in them that stands elsewhere
   pub queued-core : (c : Core) → T (all (all (within 1 (length (s .processes)))) (queues-of c)) → T (all not-empty (c .run-queue))
-      → ((p : ℕ) → 1 ≤ p → p ≤ length (s .processes) → in-queues s p + times-in p c ≤ 1 + times-in p (core-of s k)) → Queued (put core k c s)
+      → ((p : ℕ) → 1 ≤ p → p ≤ length (s .processes) → in-queues s p + times-in p c ≤ 1 + times-in p (core-of s k))
+      → Queued (put core k c s)
   unfolding in-queues
   queued-core c members batches once =
       record {
-        members = λ i b. each (λ x. T (all (all (within 1 (length (s .processes)))) (queues-of x))) i (bound i b) members (h .members i (bound i b));
+        members = λ i b.
+            each (λ x. T (all (all (within 1 (length (s .processes)))) (queues-of x))) i (bound i b) members (h .members i (bound i b));
         batches = λ i b. each (λ x. T (all not-empty (x .run-queue))) i (bound i b) batches (h .batches i (bound i b));
         once = λ p low high. omega (arith, total-set (times-in p) (s .cores) k c no-core inside, once p low high);
       }
@@ -139,10 +174,13 @@ module _ (s : State) (k : ℕ) (inside : k < length (s .cores)) (h : Queued s) w
       queued-fewer c (subst₂ (λ a r. T (all (all (within 1 (length (s .processes)))) (a ∷ r))) e e′ (h .members k inside))
       (rw e′ at (h .batches k inside)) (λ p. omega (arith, ap (times p) e, ap (total (times p)) e′))
 
+  -- the five changes of queues: push
   pub queued-push : (q : ℕ) → 1 ≤ q → q ≤ length (s .processes) → in-queues s q ≡ 0
       → Queued (put core k (with-queues (core-of s k .active ++ (q ∷ [])) (core-of s k .run-queue) (core-of s k)) s)
   queued-push q low high none =
-      queued-core _ (both (all (within 1 n) (l ++ (q ∷ []))) _ (all-append (within 1 n) l (q ∷ []) (active-among s k inside h) (all-one (within 1 n) q in-range)) (batches-among s k inside h))
+      queued-core _
+      (both (all (within 1 n) (l ++ (q ∷ []))) _
+      (all-append (within 1 n) l (q ∷ []) (active-among s k inside h) (all-one (within 1 n) q in-range)) (batches-among s k inside h))
       (h .batches k inside) (λ p low′ high′. omega (arith, times-append p l (q ∷ []), once p low′ high′ (eqb q p) refl))
     where
       n : ℕ
@@ -158,16 +196,18 @@ module _ (s : State) (k : ℕ) (inside : k < length (s .cores)) (h : Queued s) w
       once p low′ high′ true e = omega (arith, ap (in-queues s) (eqb-true q p e), none)
       once p low′ high′ false e = omega (arith, h .once p low′ high′)
 
+  -- take
   pub queued-take : (p : ℕ) (rest : List ℕ) → core-of s k .active ≡ p ∷ rest
       → Queued (put core k (with-queues rest (core-of s k .run-queue) (core-of s k)) s)
   queued-take p rest e =
-      queued-fewer _ (both (all (within 1 n) rest) _ (both-right (within 1 n p) _ (rw e at (active-among s k inside h))) (batches-among s k inside h))
+      queued-fewer _
+      (both (all (within 1 n) rest) _ (both-right (within 1 n p) _ (rw e at (active-among s k inside h))) (batches-among s k inside h))
       (h .batches k inside) (λ i. omega (arith, ap (times i) e))
     where
       n : ℕ
       n = length (s .processes)
 
-  -- the active queue becomes new batches
+  -- the active queue becomes new batches, by a store or a split
   queued-stored : (new : List (List ℕ)) → T (all (all (within 1 (length (s .processes)))) new) → T (all not-empty new)
       → ((i : ℕ) → total (times i) new ≡ times i (core-of s k .active))
       → Queued (put core k (with-queues [] (core-of s k .run-queue ++ new) (core-of s k)) s)
@@ -178,12 +218,14 @@ module _ (s : State) (k : ℕ) (inside : k < length (s .cores)) (h : Queued s) w
       r : List (List ℕ)
       r = core-of s k .run-queue
 
+  -- store
   pub queued-store : (p : ℕ) (rest : List ℕ) → core-of s k .active ≡ p ∷ rest
       → Queued (put core k (with-queues [] (core-of s k .run-queue ++ ((p ∷ rest) ∷ [])) (core-of s k)) s)
   queued-store p rest e =
       queued-stored ((p ∷ rest) ∷ []) (all-one (all (within 1 (length (s .processes)))) (p ∷ rest) (rw e at (active-among s k inside h))) tt
       (λ i. omega (arith, ap (times i) e))
 
+  -- split
   pub queued-split : (p q : ℕ) (rest : List ℕ) → core-of s k .active ≡ p ∷ (q ∷ rest)
       → Queued (put core k (with-queues [] (core-of s k .run-queue ++ ((p ∷ []) ∷ ((q ∷ rest) ∷ []))) (core-of s k)) s)
   queued-split p q rest e =
@@ -198,6 +240,7 @@ module _ (s : State) (k : ℕ) (inside : k < length (s .cores)) (h : Queued s) w
       among : T (all (within 1 n) (p ∷ (q ∷ rest)))
       among = rw e at (active-among s k inside h)
 
+  -- load
   pub queued-load : (batch : List ℕ) (rest : List (List ℕ)) → core-of s k .run-queue ≡ batch ∷ rest
       → Queued (put core k (with-queues batch rest (core-of s k)) s)
   queued-load batch rest e =

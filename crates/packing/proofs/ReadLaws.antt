@@ -9,7 +9,25 @@ use lib.Seq.{ext-getD}
 use Rattle.rules.specs.Lists.{tabulate, bit, first, last}
 use Rattle.rules.specs.State.{Alternation, Process, Core, Channel, State}
 use Rattle.rules.specs.Items.{core-of, process-of, channel-of}
-use Rattle.rules.specs.Packing.{place-number, word-number, work-words, heads, padded, core-words, progress-words, next-link, head-link, batch-link, process-words, channel-words, header-words, pack, core-at, process-at, channel-at}
+use Rattle.rules.specs.Packing.{
+  place-number,
+  word-number,
+  work-words,
+  heads,
+  padded,
+  core-words,
+  progress-words,
+  next-link,
+  head-link,
+  batch-link,
+  process-words,
+  channel-words,
+  header-words,
+  pack,
+  core-at,
+  process-at,
+  channel-at,
+}
 use Rattle.packing.proofs.Blocks.{pack-holds, length-padded, length-work-words, length-progress-words, first-part, second-part}
 
 -- A list written out
@@ -140,5 +158,5 @@ read-progress s p j l h b =
     pack-holds s .process p (6 + j) l h (omega arith)
     ∙ ap (λ (l : List ℕ). getD l (6 + j) 0) (process-split s p)
     ∙ second-part (place-number (r .place) ∷ r .data-word ∷ alternation-words (r .alternation))
-      (progress-words (r .progress) ++ link-words s p) 6 j refl
+    (progress-words (r .progress) ++ link-words s p) 6 j refl
     ∙ first-part (progress-words (r .progress)) (link-words s p) 14 j (length-progress-words (r .progress)) b

@@ -12,32 +12,65 @@ use Rattle.rules.specs.Items.{core-of, put, core}
 use Rattle.rules.specs.Packing.{heads, if-head, word-at, process-at, core-at, next-link, head-link, batch-link, pack}
 use Rattle.packing.specs.Queues.{split-writes, split-table, with-queues, Queued}
 use Rattle.packing.proofs.ReadLaws.{read-core}
-use Rattle.packing.proofs.Tests.{in-block}
-use Rattle.packing.proofs.QueueLists.{total-append, times-append, times-again, times-last, times-heads, follows-none, follows-single, follows-rest, follows-more, follows-last, last-append, heads-append, if-head-first, if-head-other, no-next, no-head}
-use Rattle.packing.proofs.Links.{held-first, held-link, next-in, Stands, next-kept, head-kept, next-head-kept, next-alone, head-alone, next-head-alone}
+use Rattle.packing.proofs.Tests.{here-or-there}
+use Rattle.packing.proofs.QueueLists.{
+  total-append,
+  times-append,
+  times-again,
+  times-last,
+  times-heads,
+  follows-none,
+  follows-single,
+  follows-rest,
+  follows-more,
+  follows-last,
+  last-append,
+  heads-append,
+  if-head-first,
+  if-head-other,
+  no-next,
+  no-head,
+}
+use Rattle.packing.proofs.Links.{
+  held-first,
+  held-own,
+  next-in,
+  Stands,
+  next-kept,
+  head-kept,
+  next-head-kept,
+  next-alone,
+  head-alone,
+  next-head-alone,
+}
 use Rattle.packing.proofs.Standing.{first-stands, first-once, second-stands, second-once, last-head-stands, last-head-once}
 use Rattle.packing.proofs.Take.{next-read}
 use Rattle.packing.proofs.Store.{stored}
 
+-- The writes of a split on a packing give the packing of the state in which core k's active queue is the two last batches.
 pub split-law : (s : State) (k p q : ℕ) (rest : List ℕ) → k < length (s .cores) → Queued s → core-of s k .active ≡ p ∷ (q ∷ rest)
     → split-table (pack s) (length (s .cores)) k
     ≡ pack (put core k (with-queues [] (core-of s k .run-queue ++ ((p ∷ []) ∷ ((q ∷ rest) ∷ []))) (core-of s k)) s)
 split-law s k p q rest inside queued e =
-    ap (λ x. split-writes x (word-at t (process-at K x 20)) (word-at t (core-at k 4)) (word-at t (core-at k 5)) (word-at t (core-at k 9)) t K k)
+    ap (λ x. split-writes x (word-at t (process-at K x 20)) (word-at t (core-at k 4)) (word-at t (core-at k 5)) (word-at t (core-at k 9))
+    t K k)
     (read-core s k 3 inside (lit< tt) ∙ ap first e)
     ∙ (λ i. split-writes p (next-read s k p (q ∷ rest) inside queued e i) ((read-core s k 4 inside (lit< tt) ∙ ap last e) i)
     ((read-core s k 5 inside (lit< tt) ∙ ap length e) i) (read-core s k 9 inside (lit< tt) i) t K k)
     ∙ stored s k p [] ((q ∷ rest) ∷ []) _ _ inside queued
-    (held-link s k inside 22 q _ tt (second .low) (second .high) (held-link s k inside 21 q _ tt (second .low) (second .high)
-    (held-link s k inside 23 p _ tt (stands .low) (stands .high) (held-link s k inside 22 p _ tt (stands .low) (stands .high)
-    (held-link s k inside 21 p _ tt (stands .low) (stands .high) (held-link s k inside 20 p 0 tt (stands .low) (stands .high) (held-first s k inside)))))))
+    (held-own s k inside 22 q _ tt second (held-own s k inside 21 q _ tt second (held-own s k inside 23 p _ tt stands
+    (held-own s k inside 22 p _ tt stands (held-own s k inside 21 p _ tt stands (held-own s k inside 20 p 0 tt stands
+    (held-first s k inside)))))))
     (record {
-      next = λ i low high. in-block p i 0 _ (λ i. next-link s′ i) (λ z. sym (next-alone s k c′ inside p stands ∙ unlinked)) (λ ne. next-kept s k c′ inside i (next-same i ne));
+      next = λ i low high.
+          here-or-there p i 0 _ (λ i. next-link s′ i) (λ z. sym (next-alone s k c′ inside p stands ∙ unlinked))
+          (λ ne. next-kept s k c′ inside i (next-same i ne));
       batch-last = λ i low high. head-moved last i;
       batch-size = λ i low high. (let z : length (p ∷ (q ∷ rest)) - 1 ≡ length (q ∷ rest) = omega arith in rw z (head-moved length i));
       next-head = λ i low high.
-          in-block b i p _ (λ i. batch-link s′ i) (λ z. sym (behind-last (omega arith)))
-          (λ ne. in-block p i q _ (λ i. batch-link s′ i) (λ z. sym behind-first) (λ ne′. next-head-kept s k c′ inside i (behind-others i ne ne′)));
+          here-or-there b i p _ (λ i. batch-link s′ i) (λ z. sym (behind-last (omega arith)))
+          (λ ne. here-or-there p i q _ (λ i. batch-link s′ i) (λ z. sym behind-first)
+          (λ ne′. next-head-kept s k c′ inside i (behind-others i ne ne′)));
     })
   where
     K : ℕ
@@ -70,6 +103,7 @@ split-law s k p q rest inside queued e =
     b : ℕ
     b = last (heads r)
 
+    -- neither p nor q stands in a batch, and they differ
     first-none : total (times p) r ≡ 0
     first-none = first-once s k inside queued p (q ∷ rest) e .1
 
@@ -97,13 +131,26 @@ split-law s k p q rest inside queued e =
     head-moved : (f : List ℕ → ℕ) (i : ℕ)
         → (if eqb i q then f (q ∷ rest) else (if eqb i p then f (p ∷ []) else head-link f s i)) ≡ head-link f s′ i
     head-moved f i =
-        in-block q i _ _ (λ i. head-link f s′ i)
+        here-or-there q i _ _ (λ i. head-link f s′ i)
         (λ z. sym (head-alone s k c′ inside q second f
-        ∙ omega (arith, total-append (if-head f q) r new, no-head f q r (second .low) second-none, if-head-other f q p [] (λ z. differ (sym z)), if-head-first f q rest)))
-        (λ ne. in-block p i _ _ (λ i. head-link f s′ i)
+        ∙ omega (
+          arith,
+          total-append (if-head f q) r new,
+          no-head f q r (second .low) second-none,
+          if-head-other f q p [] (λ z. differ (sym z)),
+          if-head-first f q rest,
+        )))
+        (λ ne. here-or-there p i _ _ (λ i. head-link f s′ i)
         (λ z. sym (head-alone s k c′ inside p stands f
-        ∙ omega (arith, total-append (if-head f p) r new, no-head f p r (stands .low) first-none, if-head-first f p [], if-head-other f p q rest differ)))
-        (λ ne′. head-kept s k c′ inside f i (omega (arith, total-append (if-head f i) r new, if-head-other f i p [] ne′, if-head-other f i q rest ne))))
+        ∙ omega (
+          arith,
+          total-append (if-head f p) r new,
+          no-head f p r (stands .low) first-none,
+          if-head-first f p [],
+          if-head-other f p q rest differ,
+        )))
+        (λ ne′. head-kept s k c′ inside f i
+        (omega (arith, total-append (if-head f i) r new, if-head-other f i p [] ne′, if-head-other f i q rest ne))))
 
     -- the heads are those before, then p and q
     new-heads : heads (r ++ new) ≡ heads r ++ (p ∷ []) ++ (q ∷ [])
@@ -132,4 +179,7 @@ split-law s k p q rest inside queued e =
         ∙ (rw z at (follows-last q (heads r ++ (p ∷ [])) (rw z (stands .low)) (rw z once)))
 
     behind-others : (i : ℕ) → (i ≡ b → ⊥) → (i ≡ p → ⊥) → follows i (heads r) ≡ follows i (heads (r ++ new))
-    behind-others i ne ne′ = sym (ap (follows i) new-heads ∙ follows-more i q (heads r ++ (p ∷ [])) (rw (last-append (heads r) p []) ne′) ∙ follows-more i p (heads r) ne)
+    behind-others i ne ne′ =
+        sym (ap (follows i) new-heads
+        ∙ follows-more i q (heads r ++ (p ∷ [])) (rw (last-append (heads r) p []) ne′)
+        ∙ follows-more i p (heads r) ne)

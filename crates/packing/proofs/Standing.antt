@@ -6,7 +6,7 @@ use native.Mathlib.Omega.{arith}
 use native.Mathlib.Nat.{le-trans}
 use lib.Dec.{T, eqb, leb, leb→le}
 use lib.ListN.{length}
-use borrow.Author.Tests.{eq-eqb, ne-eqb}
+use borrow.Author.Tests.{ne-eqb}
 use Rattle.rules.specs.Lists.{if_then_else_, within, all, total, times, first, last}
 use Rattle.rules.specs.State.{State}
 use Rattle.rules.specs.Items.{core-of, no-core}
@@ -14,13 +14,14 @@ use Rattle.rules.specs.Packing.{heads}
 use Rattle.rules.specs.Soundness.{not-empty, in-queues}
 use Rattle.packing.specs.Queues.{Queued}
 use Rattle.packing.proofs.Tests.{both-left, both-right, both}
-use Rattle.packing.proofs.QueueLists.{total-part, times-again, times-first, times-last, times-heads}
+use Rattle.packing.proofs.QueueLists.{total-part, times-again, times-last, times-heads}
 use Rattle.packing.proofs.Links.{times-in, Stands}
 
 -- one of 1 to n
 abbrev pub Among : ℕ → ℕ → Type 0
 Among n p = (1 ≤ p) × (p ≤ n)
 
+-- as a test says it
 within-among : (n p : ℕ) → T (within 1 n p) → Among n p
 within-among n p h = (leb→le 1 p (both-left (leb 1 p) (leb p n) h), leb→le p n (both-right (leb 1 p) (leb p n) h))
 
@@ -36,6 +37,16 @@ pub last-bound : (n : ℕ) (l : List ℕ) → T (all (within 1 n) l) → last l 
 last-bound n [] h = omega arith
 last-bound n (x ∷ l) h = last-among n x l h .1
 
+-- so are the heads of batches that are not empty
+heads-among : (n : ℕ) (batches : List (List ℕ)) → T (all (all (within 1 n)) batches) → T (all not-empty batches)
+    → T (all (within 1 n) (heads batches))
+heads-among n [] h g = tt
+heads-among n ([] ∷ batches) h g = absurd g
+heads-among n ((x ∷ l) ∷ batches) h g =
+    both (within 1 n x) (all (within 1 n) (heads batches))
+    (both-left (within 1 n x) (all (within 1 n) l) (both-left (all (within 1 n) (x ∷ l)) (all (all (within 1 n)) batches) h))
+    (heads-among n batches (both-right (all (within 1 n) (x ∷ l)) (all (all (within 1 n)) batches) h) g)
+
 -- what is first when another is put at the end: that one where there was none, which the last shows
 pub first-more : (n p : ℕ) (l m : List ℕ) → T (all (within 1 n) l) → (if eqb (last l) 0 then p else first l) ≡ first (l ++ (p ∷ m))
 first-more n p [] m h = refl
@@ -46,16 +57,8 @@ pub last-rest : (n x : ℕ) (l : List ℕ) → T (all (within 1 n) l) → (if eq
 last-rest n x [] h = refl
 last-rest n x (y ∷ l) h = rw (ne-eqb y 0 (λ e. omega (arith, first-among n y l h .0)))
 
--- so are the heads of batches that are not empty
-heads-among : (n : ℕ) (batches : List (List ℕ)) → T (all (all (within 1 n)) batches) → T (all not-empty batches) → T (all (within 1 n) (heads batches))
-heads-among n [] h g = tt
-heads-among n ([] ∷ batches) h g = absurd g
-heads-among n ((x ∷ l) ∷ batches) h g =
-    both (within 1 n x) (all (within 1 n) (heads batches))
-    (both-left (within 1 n x) (all (within 1 n) l) (both-left (all (within 1 n) (x ∷ l)) (all (all (within 1 n)) batches) h))
-    (heads-among n batches (both-right (all (within 1 n) (x ∷ l)) (all (all (within 1 n)) batches) h) g)
-
 module _ (s : State) (k : ℕ) (inside : k < length (s .cores)) (queued : Queued s) where
+  -- the members of the active queue and of the batches, and the heads, are processes
   pub active-among : T (all (within 1 (length (s .processes))) (core-of s k .active))
   active-among = both-left (all (within 1 (length (s .processes))) (core-of s k .active)) _ (queued .members k inside)
 
@@ -81,11 +84,12 @@ module _ (s : State) (k : ℕ) (inside : k < length (s .cores)) (queued : Queued
   -- so does the first of the active queue
   pub first-stands : (p : ℕ) (rest : List ℕ) → core-of s k .active ≡ p ∷ rest → Stands s k p
   first-stands p rest e =
-      let here : 1 ≤ times p (core-of s k .active) = rw e (times-first p p rest (eq-eqb p p refl)) in
+      let here : 1 ≤ times p (core-of s k .active) = rw e (omega (arith, times-again p rest)) in
       stands-once p (first-among _ p rest (rw e at active-among)) (omega arith)
 
   -- it stands neither further on in that queue nor in a batch
-  pub first-once : (p : ℕ) (rest : List ℕ) → core-of s k .active ≡ p ∷ rest → (times p rest ≡ 0) × (total (times p) (core-of s k .run-queue) ≡ 0)
+  pub first-once : (p : ℕ) (rest : List ℕ) → core-of s k .active ≡ p ∷ rest
+      → (times p rest ≡ 0) × (total (times p) (core-of s k .run-queue) ≡ 0)
   first-once p rest e =
       let stands : Stands s k p = first-stands p rest e in
       let count : times p (core-of s k .active) ≡ 1 + times p rest = ap (times p) e ∙ times-again p rest in
@@ -114,7 +118,8 @@ module _ (s : State) (k : ℕ) (inside : k < length (s .cores)) (queued : Queued
   last-head-stands low =
       let b : ℕ = last (heads (core-of s k .run-queue)) in
       let here : 1 ≤ times b (heads (core-of s k .run-queue)) = times-last (heads (core-of s k .run-queue)) low in
-      stands-once b (low, last-bound _ (heads (core-of s k .run-queue)) core-heads-among) (omega (arith, times-heads b (core-of s k .run-queue) low))
+      stands-once b (low, last-bound _ (heads (core-of s k .run-queue)) core-heads-among)
+      (omega (arith, times-heads b (core-of s k .run-queue) low))
 
   pub last-head-once : (low : 1 ≤ last (heads (core-of s k .run-queue)))
       → times (last (heads (core-of s k .run-queue))) (heads (core-of s k .run-queue)) ≤ 1
@@ -132,5 +137,6 @@ module _ (s : State) (k : ℕ) (inside : k < length (s .cores)) (queued : Queued
   first-head-stands p more rest e =
       stands-once p (first-among _ p (heads rest) (rw e at core-heads-among)) (omega (arith, first-head-here p more rest e))
 
-  pub first-head-once : (p : ℕ) (more : List ℕ) (rest : List (List ℕ)) → core-of s k .run-queue ≡ (p ∷ more) ∷ rest → total (times p) rest ≡ 0
+  pub first-head-once : (p : ℕ) (more : List ℕ) (rest : List (List ℕ)) → core-of s k .run-queue ≡ (p ∷ more) ∷ rest
+      → total (times p) rest ≡ 0
   first-head-once p more rest e = omega (arith, first-head-here p more rest e, first-head-stands p more rest e .at-most)

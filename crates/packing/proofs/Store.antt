@@ -11,12 +11,45 @@ use Rattle.rules.specs.Items.{core-of, put, core}
 use Rattle.rules.specs.Packing.{heads, if-head, head-link, batch-link, pack}
 use Rattle.packing.specs.Queues.{store-heads, store-writes, store-table, with-queues, Queued}
 use Rattle.packing.proofs.ReadLaws.{read-core, core-list}
-use Rattle.packing.proofs.Tests.{in-block}
-use Rattle.packing.proofs.QueueLists.{total-append, follows-more, follows-last, last-append, heads-append, if-head-first, if-head-other, no-head}
-use Rattle.packing.proofs.Links.{write-link, Held, held-first, held-core, held-link, held-end, Linked, held-last, queue-entries, Stands, next-kept, head-kept, next-head-kept, head-alone, next-head-alone}
-use Rattle.packing.proofs.Standing.{first-stands, first-once, last-head-stands, last-head-once, core-heads-among, last-bound, first-more}
+use Rattle.packing.proofs.Tests.{here-or-there}
+use Rattle.packing.proofs.QueueLists.{
+  total-append,
+  follows-more,
+  follows-last,
+  last-append,
+  heads-append,
+  if-head-first,
+  if-head-other,
+  no-head,
+}
+use Rattle.packing.proofs.Links.{
+  write-link,
+  Held,
+  held-first,
+  held-core,
+  held-own,
+  held-end,
+  Linked,
+  held-last,
+  queue-entries,
+  Stands,
+  next-kept,
+  head-kept,
+  next-head-kept,
+  head-alone,
+  next-head-alone,
+}
+use Rattle.packing.proofs.Standing.{
+  first-stands,
+  first-once,
+  last-head-stands,
+  last-head-once,
+  core-heads-among,
+  last-bound,
+  first-more,
+}
 
--- Once the links of new batches are written, the first of them with the head p, the writes of a store put them at the end of the run queue.
+-- Once the links of new batches are written, the first of them with the head p, `store-heads` puts them at the end of the run queue.
 pub stored : (s : State) (k p : ℕ) (l : List ℕ) (more : List (List ℕ)) (L : ℕ → ℕ → ℕ) (t : List ℕ) → k < length (s .cores) → Queued s
     → Held s k (core-list (core-of s k)) L t
     → Linked (length (s .processes)) (write-link 23 (last (heads (core-of s k .run-queue))) p L)
@@ -41,21 +74,23 @@ stored s k p l more L t inside queued held linked =
     among : T (all (within 1 (length (s .processes))) (heads r))
     among = core-heads-among s k inside queued
 
-module _ (s : State) (k p : ℕ) (rest : List ℕ) (inside : k < length (s .cores)) (queued : Queued s) (e : core-of s k .active ≡ p ∷ rest) where
+module _ (s : State) (k p : ℕ) (rest : List ℕ) (inside : k < length (s .cores)) (queued : Queued s)
+    (e : core-of s k .active ≡ p ∷ rest) where
+  -- The writes of a store on a packing give the packing of the state in which core k's active queue is the last batch.
   pub store-law : store-table (pack s) (length (s .cores)) k
       ≡ pack (put core k (with-queues [] (core-of s k .run-queue ++ ((p ∷ rest) ∷ [])) (core-of s k)) s)
   store-law =
       (λ i. store-writes ((read-core s k 3 inside (lit< tt) ∙ ap first e) i) ((read-core s k 4 inside (lit< tt) ∙ ap last e) i)
       ((read-core s k 5 inside (lit< tt) ∙ ap length e) i) (read-core s k 9 inside (lit< tt) i) (pack s) (length (s .cores)) k)
       ∙ stored s k p rest [] _ _ inside queued
-      (held-link s k inside 22 p (length (p ∷ rest)) tt (stands .low) (stands .high)
-      (held-link s k inside 21 p (last (p ∷ rest)) tt (stands .low) (stands .high) (held-first s k inside)))
+      (held-own s k inside 22 p (length (p ∷ rest)) tt stands
+      (held-own s k inside 21 p (last (p ∷ rest)) tt stands (held-first s k inside)))
       (record {
         next = λ i low high. next-kept s k c′ inside i (omega (arith, ap (follows i) e, total-append (follows i) r ((p ∷ rest) ∷ [])));
         batch-last = λ i low high. head-moved last i;
         batch-size = λ i low high. head-moved length i;
         next-head = λ i low high.
-            in-block b i p _ (λ i. batch-link (put core k c′ s) i) (λ q. sym (linked (omega arith)))
+            here-or-there b i p _ (λ i. batch-link (put core k c′ s) i) (λ q. sym (linked (omega arith)))
             (λ ne. next-head-kept s k c′ inside i (sym (ap (follows i) (heads-append r ((p ∷ rest) ∷ [])) ∙ follows-more i p (heads r) ne)));
       })
     where
@@ -77,7 +112,7 @@ module _ (s : State) (k p : ℕ) (rest : List ℕ) (inside : k < length (s .core
       -- what the new head keeps of the new batch
       head-moved : (f : List ℕ → ℕ) (i : ℕ) → (if eqb i p then f (p ∷ rest) else head-link f s i) ≡ head-link f (put core k c′ s) i
       head-moved f i =
-          in-block p i _ _ (λ i. head-link f (put core k c′ s) i)
+          here-or-there p i _ _ (λ i. head-link f (put core k c′ s) i)
           (λ q. sym (head-alone s k c′ inside p stands f
           ∙ omega (
             arith,

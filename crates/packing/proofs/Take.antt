@@ -11,12 +11,25 @@ use Rattle.rules.specs.Items.{core-of, put, core}
 use Rattle.rules.specs.Packing.{word-at, process-at, core-at, next-link, pack}
 use Rattle.packing.specs.Queues.{take-writes, take-table, with-queues, Queued}
 use Rattle.packing.proofs.ReadLaws.{read-core, read-process}
-use Rattle.packing.proofs.Tests.{in-block, both-right}
+use Rattle.packing.proofs.Tests.{here-or-there, both-right}
 use Rattle.packing.proofs.QueueLists.{follows-none, follows-first, follows-rest, no-next}
-use Rattle.packing.proofs.Links.{held-first, held-core, held-link, held-last, queue-entries, next-in, Stands, next-kept, head-kept, next-head-kept, next-alone}
+use Rattle.packing.proofs.Links.{
+  held-first,
+  held-core,
+  held-own,
+  held-last,
+  queue-entries,
+  next-in,
+  Stands,
+  next-kept,
+  head-kept,
+  next-head-kept,
+  next-alone,
+}
 use Rattle.packing.proofs.Standing.{first-stands, first-once, active-among, last-rest}
 
-module _ (s : State) (k p : ℕ) (rest : List ℕ) (inside : k < length (s .cores)) (queued : Queued s) (e : core-of s k .active ≡ p ∷ rest) where
+module _ (s : State) (k p : ℕ) (rest : List ℕ) (inside : k < length (s .cores)) (queued : Queued s)
+    (e : core-of s k .active ≡ p ∷ rest) where
   -- who is next in the table is next in the queue
   pub next-read : word-at (pack s) (process-at (length (s .cores)) p 20) ≡ first rest
   next-read =
@@ -27,16 +40,20 @@ module _ (s : State) (k p : ℕ) (rest : List ℕ) (inside : k < length (s .core
       ∙ next-alone s k (core-of s k) inside p stands
       ∙ omega (arith, no-next p (core-of s k .run-queue) (first-once s k inside queued p rest e .1))
 
-  pub take-law : take-table (pack s) (length (s .cores)) k ≡ pack (put core k (with-queues rest (core-of s k .run-queue) (core-of s k)) s)
+  -- The writes of a take on a packing give the packing of the state in which core k's active queue, first p, is without p.
+  pub take-law : take-table (pack s) (length (s .cores)) k
+      ≡ pack (put core k (with-queues rest (core-of s k .run-queue) (core-of s k)) s)
   take-law =
-      ap (λ x. take-writes x (word-at t (process-at K x 20)) (word-at t (core-at k 4)) (word-at t (core-at k 5)) t K k) (read-core s k 3 inside (lit< tt) ∙ ap first e)
-      ∙ (λ i. take-writes p (next-read i) ((read-core s k 4 inside (lit< tt) ∙ ap last e) i) ((read-core s k 5 inside (lit< tt) ∙ ap length e) i) t K k)
+      ap (λ x. take-writes x (word-at t (process-at K x 20)) (word-at t (core-at k 4)) (word-at t (core-at k 5)) t K k)
+      (read-core s k 3 inside (lit< tt) ∙ ap first e)
+      ∙ (λ i. take-writes p (next-read i) ((read-core s k 4 inside (lit< tt) ∙ ap last e) i)
+      ((read-core s k 5 inside (lit< tt) ∙ ap length e) i) t K k)
       ∙ held-last s k c′ _ _ _ inside
-      (held-link s k inside 20 p 0 tt (stands .low) (stands .high)
+      (held-own s k inside 20 p 0 tt stands
       (held-core s k inside 5 _ tt (held-core s k inside 4 _ tt (held-core s k inside 3 (first rest) tt (held-first s k inside)))))
       (queue-entries c rest r refl (last-rest _ p rest among) (omega arith) refl refl)
       (record {
-        next = λ i low high. in-block p i 0 _ (λ i. next-link (put core k c′ s) i) (λ q. sym (next-alone s k c′ inside p stands ∙ unlinked))
+        next = λ i low high. here-or-there p i 0 _ (λ i. next-link (put core k c′ s) i) (λ q. sym (next-alone s k c′ inside p stands ∙ unlinked))
             (λ ne. next-kept s k c′ inside i (ap (λ n. n + total (follows i) r) (ap (follows i) e ∙ follows-rest i p rest ne)));
         batch-last = λ i low high. head-kept s k c′ inside last i refl;
         batch-size = λ i low high. head-kept s k c′ inside length i refl;
@@ -64,6 +81,7 @@ module _ (s : State) (k p : ℕ) (rest : List ℕ) (inside : k < length (s .core
       among : T (all (within 1 (length (s .processes))) rest)
       among = both-right (within 1 (length (s .processes)) p) _ (rw e at (active-among s k inside queued))
 
+      -- nothing follows p any more
       unlinked : next-in p c′ ≡ 0
       unlinked =
           let once = first-once s k inside queued p rest e in

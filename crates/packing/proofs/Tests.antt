@@ -26,9 +26,9 @@ same-test a b c d there back = cases (eqb a b) refl
 pub apart : (a b v x : ℕ) → (a ≡ b → ⊥) → (if eqb a b then v else x) ≡ x
 apart a b v x ne = rw (ne-eqb a b ne)
 
--- one value at j, others elsewhere: together they are W if each is
-pub in-block : (j i x y : ℕ) (W : ℕ → ℕ) → (i ≡ j → x ≡ W j) → ((i ≡ j → ⊥) → y ≡ W i) → (if eqb i j then x else y) ≡ W i
-in-block j i x y W here others =
+-- a value for j and others elsewhere are those of W if each is
+pub here-or-there : (j i x y : ℕ) (W : ℕ → ℕ) → (i ≡ j → x ≡ W j) → ((i ≡ j → ⊥) → y ≡ W i) → (if eqb i j then x else y) ≡ W i
+here-or-there j i x y W here others =
     by-test (eqb i j) (λ q. here (eqb-true i j q) ∙ ap W (sym (eqb-true i j q))) (λ q. others (eqb-false i j q))
 
 -- the two parts of a conjunction
@@ -54,7 +54,8 @@ all-at f (x ∷ l) (suc k) d h t = all-at f l k d (omega arith) (both-right (f x
 -- a test of all of two lists
 pub all-append : {A : Type 0} (f : A → Bool) (l m : List A) → T (all f l) → T (all f m) → T (all f (l ++ m))
 all-append f [] m h g = g
-all-append f (x ∷ l) m h g = both (f x) (all f (l ++ m)) (both-left (f x) (all f l) h) (all-append f l m (both-right (f x) (all f l) h) g)
+all-append f (x ∷ l) m h g =
+    both (f x) (all f (l ++ m)) (both-left (f x) (all f l) h) (all-append f l m (both-right (f x) (all f l) h) g)
 
 -- a test of all of a list with one element
 pub all-one : {A : Type 0} (f : A → Bool) (x : A) → T (f x) → T (all f (x ∷ []))

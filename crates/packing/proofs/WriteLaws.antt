@@ -8,14 +8,79 @@ use lib.ListN.{length, getD, set, length-set}
 use lib.Seq.{getD-set-same, getD-set-other, set-set}
 use Rattle.rules.specs.Lists.{nth, set-nth, total, follows, last}
 use Rattle.rules.specs.State.{Place, Alternation, Progress, Process, ChannelWord, Channel, Core, State}
-use Rattle.rules.specs.Items.{no-core, no-process, no-channel, core-of, process-of, channel-of, put, core, place, data-word, alternation, progress, channel-word, transfers}
-use Rattle.rules.specs.Packing.{place-number, word-number, heads, if-head, core-at, core-words, progress-words, next-link, head-link, batch-link, process-words, channel-words, pack, process-at, channel-at}
+use Rattle.rules.specs.Items.{
+  no-core,
+  no-process,
+  no-channel,
+  core-of,
+  process-of,
+  channel-of,
+  put,
+  core,
+  place,
+  data-word,
+  alternation,
+  progress,
+  channel-word,
+  transfers,
+}
+use Rattle.rules.specs.Packing.{
+  place-number,
+  word-number,
+  heads,
+  if-head,
+  core-at,
+  core-words,
+  progress-words,
+  next-link,
+  head-link,
+  batch-link,
+  process-words,
+  channel-words,
+  pack,
+  process-at,
+  channel-at,
+}
 use Rattle.packing.proofs.Regions.{Same}
-use Rattle.packing.proofs.Blocks.{dims, words-of, pack-holds, length-core-words, length-process-words, length-channel-words, length-progress-words}
+use Rattle.packing.proofs.Blocks.{
+  dims,
+  words-of,
+  pack-holds,
+  length-core-words,
+  length-process-words,
+  length-channel-words,
+  length-progress-words,
+}
 use Rattle.packing.proofs.Links.{links-of, held-first, held-writes, held-last, next-kept, head-kept, next-head-kept}
-use Rattle.packing.proofs.ReadLaws.{listed, listed-same, core-list, alternation-words, own-words, link-words, channel-list, process-split}
-use Rattle.packing.proofs.Tests.{in-block}
-use Rattle.packing.proofs.Focus.{Region, cores, processes, channels, size-in, Has, address, words-in, focus, focus-start, focus-writes, packed, same-header, writes, below, writes-inside, below-shifted}
+use Rattle.packing.proofs.ReadLaws.{
+  listed,
+  listed-same,
+  core-list,
+  alternation-words,
+  own-words,
+  link-words,
+  channel-list,
+  process-split,
+}
+use Rattle.packing.proofs.Tests.{here-or-there}
+use Rattle.packing.proofs.States.{with-process, with-channel, dims-process, dims-channel, packed, same-header}
+use Rattle.packing.proofs.Focus.{
+  Region,
+  cores,
+  processes,
+  channels,
+  size-in,
+  Has,
+  address,
+  words-in,
+  focus,
+  focus-start,
+  focus-writes,
+  writes,
+  below,
+  writes-inside,
+  below-shifted,
+}
 
 -- the words of a block of a state
 abbrev pub block-words : Region → State → ℕ → List ℕ
@@ -48,11 +113,7 @@ writes-law r s s′ j at ws h b e same turned =
 -- Lists counted from 1
 
 module _ {A : Type 0} where
-  -- what is there after one element was set: as many as before, that one in its place, and the others
-  pub length-set-nth : (l : List A) (p : ℕ) (a : A) → length (set-nth l p a) ≡ length l
-  length-set-nth l zero a = refl
-  length-set-nth l (suc i) a = length-set l i a
-
+  -- what is there after one element was set: that one in its place, and the others
   nth-set-same : (l : List A) (p : ℕ) (a d : A) → 1 ≤ p → p ≤ length l → nth (set-nth l p a) p d ≡ a
   nth-set-same l zero a d low high = absurd (omega arith)
   nth-set-same l (suc i) a d low high = getD-set-same l i a d (omega arith)
@@ -64,10 +125,6 @@ module _ {A : Type 0} where
 
 -- Processes
 
--- the state with another process of number p
-abbrev pub with-process : ℕ → Process → State → State
-with-process p r s = record { cores = s .cores; processes = set-nth (s .processes) p r; channels = s .channels }
-
 -- Writes that turn a process's own words into another's
 pub process-law : (s : State) (p : ℕ) (r : Process) (at : ℕ → ℕ) (ws : List (ℕ × ℕ))
     → 1 ≤ p → p ≤ length (s .processes) → T (below 24 at ws)
@@ -75,19 +132,17 @@ pub process-law : (s : State) (p : ℕ) (r : Process) (at : ℕ → ℕ) (ws : L
     → writes ws (λ f. process-at (length (s .cores)) p (at f)) (pack s) ≡ pack (with-process p r s)
 unfolding next-link head-link batch-link
 process-law s p r at ws low high b turned =
-    writes-law processes s (with-process p r s) p at ws (low, high) b same-dims
+    writes-law processes s (with-process p r s) p at ws (low, high) b (dims-process p r s)
     (record {
-      header = λ f b′. ap (λ (l : List ℕ). getD l f 0) (same-header s (with-process p r s) same-dims);
+      header = λ f b′. ap (λ (l : List ℕ). getD l f 0) (same-header s (with-process p r s) (dims-process p r s));
       core = λ i f b′ b″. refl;
       process = λ i f low′ b′ b″.
-          in-block p i _ _ (λ x. getD (process-words (with-process p r s) x) f 0) (λ e. refl) (λ ne. ap (λ (l : List ℕ). getD l f 0) (others i ne));
+          here-or-there p i _ _ (λ x. getD (process-words (with-process p r s) x) f 0) (λ e. refl)
+          (λ ne. ap (λ (l : List ℕ). getD l f 0) (others i ne));
       channel = λ i f low′ b′ b″. refl;
     })
     (ap (writes ws at) (process-split s p) ∙ turned ∙ sym here)
   where
-    same-dims : dims (with-process p r s) ≡ dims s
-    same-dims = ap (λ (n : ℕ). record { K = length (s .cores); N = n; M = length (s .channels) }) (length-set-nth (s .processes) p r)
-
     here : process-words (with-process p r s) p ≡ own-words r ++ link-words s p
     here =
         process-split (with-process p r s) p
@@ -142,10 +197,6 @@ on-listed x ws e = ap (writes ws (λ j. j)) (listed-same (progress-words x) 14 (
 
 -- Channels
 
--- the state with another channel of number c
-abbrev pub with-channel : ℕ → Channel → State → State
-with-channel c r s = record { cores = s .cores; processes = s .processes; channels = set-nth (s .channels) c r }
-
 -- Writes that turn a channel's words into another's
 pub channel-law : (s : State) (c : ℕ) (r : Channel) (at : ℕ → ℕ) (ws : List (ℕ × ℕ))
     → 1 ≤ c → c ≤ length (s .channels) → T (below 4 at ws)
@@ -153,19 +204,16 @@ pub channel-law : (s : State) (c : ℕ) (r : Channel) (at : ℕ → ℕ) (ws : L
     → writes ws (λ f. channel-at (length (s .cores)) (length (s .processes)) c (at f)) (pack s) ≡ pack (with-channel c r s)
 unfolding process-words next-link head-link batch-link channel-words
 channel-law s c r at ws low high b turned =
-    writes-law channels s (with-channel c r s) c at ws (low, high) b same-dims
+    writes-law channels s (with-channel c r s) c at ws (low, high) b (dims-channel c r s)
     (record {
-      header = λ f b′. ap (λ (l : List ℕ). getD l f 0) (same-header s (with-channel c r s) same-dims);
+      header = λ f b′. ap (λ (l : List ℕ). getD l f 0) (same-header s (with-channel c r s) (dims-channel c r s));
       core = λ i f b′ b″. refl;
       process = λ i f low′ b′ b″. refl;
       channel = λ i f low′ b′ b″.
-          in-block c i _ _ (λ x. getD (channel-list (channel-of (with-channel c r s) x)) f 0) (λ e. refl)
+          here-or-there c i _ _ (λ x. getD (channel-list (channel-of (with-channel c r s) x)) f 0) (λ e. refl)
           (λ ne. ap (λ (x : Channel). getD (channel-list x) f 0) (sym (nth-set-other (s .channels) c i r no-channel ne)));
     })
     (turned ∙ ap channel-list (sym (nth-set-same (s .channels) c r no-channel low high)))
-  where
-    same-dims : dims (with-channel c r s) ≡ dims s
-    same-dims = ap (λ (n : ℕ). record { K = length (s .cores); N = length (s .processes); M = n }) (length-set-nth (s .channels) c r)
 
 module _ (s : State) (c : ℕ) (low : 1 ≤ c) (high : c ≤ length (s .channels)) where
   -- word 2: channel word
