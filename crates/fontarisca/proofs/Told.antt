@@ -6,17 +6,45 @@ use mathlib.Core.List.{List}
 use native.Mathlib.Omega.{arith}
 use lib.Dec.{T, eqb, ltb}
 use lib.ListN.{length}
-use borrow.Author.Tests.{eqb-true, eqb-false, ltb-true, lt-ltb}
+use borrow.Author.Tests.{eqb-true, eq-eqb, ltb-true, lt-ltb}
 use Rattle.rules.specs.Lists.{if_then_else_}
 use Rattle.rules.specs.Numbers.{
-  Answer, BUILT, TAKEN, MOVED, SLEPT, IDLE, GO, SENT, GOT, CHOSE, Refusal, SIZE, PAIRS, ROOM, NAME, SELF, ANSWER, DAMAGED, CORE, BUSY, AWAITED, GUARDS,
-  CHANNEL, OTHER-END, TWICE, FAULT, yes-with, no-because, words-of, number-of
+  Answer,
+  BUILT,
+  TAKEN,
+  MOVED,
+  SLEPT,
+  IDLE,
+  GO,
+  SENT,
+  GOT,
+  CHOSE,
+  Refusal,
+  SIZE,
+  PAIRS,
+  ROOM,
+  NAME,
+  SELF,
+  ANSWER,
+  DAMAGED,
+  CORE,
+  BUSY,
+  AWAITED,
+  GUARDS,
+  CHANNEL,
+  OTHER-END,
+  TWICE,
+  FAULT,
+  yes-with,
+  no-because,
+  words-of,
+  number-of,
 }
 use Rattle.rules.specs.State.{wiring}
 use Rattle.rules.specs.Rule.{Ran, accepted, refused, run}
 use Rattle.rules.specs.Packing.{view, K-of}
 use Rattle.rules.specs.Soundness.{sound}
-use Rattle.rules.specs.Calls.{Result, Ask, rule-of, outcome-of, call}
+use Rattle.rules.specs.Calls.{Result, Ask, refusal, rule-of, outcome-of, call}
 use Rattle.answers.specs.Four.{four, words-after}
 use Rattle.answers.specs.declared.Reply.{Reply}
 use Rattle.parts.specs.Does.{Comes, Does}
@@ -72,6 +100,34 @@ told (refused why) t answer u r h = record {
   table = h .1;
 }
 
+-- what holds of a call that isn't refused first
+pub record Allowed (t answer : List ℕ) (k : ℕ) : Type 0 where
+  pub three : length answer ≡ 3
+  pub is-sound : T (sound t)
+  pub inside : k < K-of t
+
+T-true : (b : Bool) → T b → b ≡ true
+T-true true h = refl
+T-true false h = absurd h
+
+pub allowed : (t answer : List ℕ) (k : ℕ) → first-refusal t answer k ≡ 0 → Allowed t answer k
+allowed t answer k e = by-answer (eqb (length answer) 3) refl
+  where
+    never : (n : ℕ) → first-refusal t answer k ≡ suc n → Allowed t answer k
+    never n f = absurd (let g : suc n ≡ 0 = sym f ∙ e in omega arith)
+
+    by-core : (b : Bool) → ltb k (K-of t) ≡ b → eqb (length answer) 3 ≡ true → sound t ≡ true → Allowed t answer k
+    by-core true f g h = record { three = eqb-true (length answer) 3 g; is-sound = rw h tt; inside = ltb-true k (K-of t) f }
+    by-core false f g h = never 26 (rw (g, h, f))
+
+    by-sound : (b : Bool) → sound t ≡ b → eqb (length answer) 3 ≡ true → Allowed t answer k
+    by-sound true h g = by-core (ltb k (K-of t)) refl g h
+    by-sound false h g = never 25 (rw (g, h))
+
+    by-answer : (b : Bool) → eqb (length answer) 3 ≡ b → Allowed t answer k
+    by-answer true g = by-sound (sound t) refl g
+    by-answer false g = never 24 (rw g)
+
 module _ (t answer : List ℕ) (k : ℕ) (ask : Ask) where
   -- a call that is refused first
   pub refused-first : (n : ℕ) → first-refusal t answer k ≡ n → (n ≡ 0 → ⊥) → Is (call t answer k ask) n answer t
@@ -80,7 +136,10 @@ module _ (t answer : List ℕ) (k : ℕ) (ask : Ask) where
     where
       by-core : (b : Bool) → ltb k (K-of t) ≡ b → eqb (length answer) 3 ≡ true → sound t ≡ true → Is (call t answer k ask) n answer t
       by-core true f g h = absurd (some (sym e ∙ rw (g, h, f)))
-      by-core false f g h = rw (g, h, ?l) (record { number = sym e ∙ rw (g, h, f); answer = refl; table = refl })
+      by-core false f g h =
+          let sure : T (sound t) = rw h tt in
+          let none : ltb k (length (view t .cores)) ≡ false = ap (ltb k) (sym (K-is t sure)) ∙ f in
+          rw (g, h, none) (record { number = sym e ∙ rw (g, h, f); answer = refl; table = refl })
 
       by-sound : (b : Bool) → sound t ≡ b → eqb (length answer) 3 ≡ true → Is (call t answer k ask) n answer t
       by-sound true h g = by-core (ltb k (K-of t)) refl g h
@@ -89,3 +148,13 @@ module _ (t answer : List ℕ) (k : ℕ) (ask : Ask) where
       by-answer : (b : Bool) → eqb (length answer) 3 ≡ b → Is (call t answer k ask) n answer t
       by-answer true g = by-sound (sound t) refl g
       by-answer false g = rw g (record { number = sym e ∙ rw g; answer = refl; table = refl })
+
+  -- a call that isn't refused first tells what its rule comes to
+  pub told-call : Allowed t answer k → (r : Reply) (u : List ℕ) → Does (rule-of (wiring (view t)) ask k) t r u
+      → Is (call t answer k ask) (r .number) (words-after r answer) u
+  unfolding call
+  told-call ok r u does =
+      let three : eqb (length answer) 3 ≡ true = eq-eqb (length answer) 3 (ok .three) in
+      let sure : sound t ≡ true = T-true (sound t) (ok .is-sound) in
+      let there : ltb k (length (view t .cores)) ≡ true = lt-ltb k (length (view t .cores)) (subst (λ (n : ℕ). k < n) (K-is t (ok .is-sound)) (ok .inside)) in
+      rw (three, sure, there) (told (run (rule-of (wiring (view t)) ask k) (view t)) t answer u r does)
