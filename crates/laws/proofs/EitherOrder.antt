@@ -19,9 +19,9 @@ use Rattle.laws.proofs.StaysSound.{leaves-packing}
 -- the whole rule of a call keeps to the items that the call touches
 whole-within : (c : Call) (s : State) → Within (IsTouched s (c .core) (c .ask)) (whole true c (wiring s)) s
 whole-within c s =
-    whole-by true c (wiring s) (λ r. Within (IsTouched s (c .core) (c .ask)) r s) (λ why. tt) (λ _. within-touched s (c .core) (c .ask))
+    whole-by c (wiring s) (λ r. Within (IsTouched s (c .core) (c .ask)) r s) (λ why. tt) (within-touched s (c .core) (c .ask))
 
--- two results with one number and one answer
+-- two results have one number and one answer
 abbrev SameAnswer : Result → Result → Type 0
 SameAnswer r r′ = (r .number ≡ r′ .number) × (r .answer ≡ r′ .answer)
 

@@ -78,11 +78,12 @@ ran-listed : (t answer : List ℕ) (x : Ran Answer) → T (member (outcome-of t 
 ran-listed t answer (accepted a s) = answer-number a .0
 ran-listed t answer (refused why) = refusal-number why .0
 
--- and so it is whatever set-up refuses
+-- and whatever a set-up is refused for, so is the number that it returns
 built-listed : (t : List ℕ) (s : State) (o : Option Refusal) → T (member (built t s o .number) listed)
 built-listed t s none = tt
 built-listed t s (some why) = refusal-number why .0
 
+-- Each call and each set-up returns one of the listed numbers.
 pub listed-number : ListedNumber
 unfolding set-up-call
 listed-number = record {

@@ -1,4 +1,4 @@
--- "A refusal writes nothing anywhere."
+-- Demand 1: "A refusal writes nothing anywhere."
 use Prim.Native.Nat.{ℕ, _≤_}
 use native.Mathlib.Omega.{arith}
 use mathlib.Core.Path.{_≡_, refl}
@@ -26,6 +26,7 @@ built-untouched : (t : List ℕ) (s : State) (o : Option Refusal) → 20 ≤ bui
 built-untouched t s none h = absurd (omega arith)
 built-untouched t s (some why) h = refl
 
+-- A call or a set-up that returns a refusal's number leaves the answer slice and the table as they were.
 pub refusal-writes-nothing : RefusalWritesNothing
 unfolding set-up-call
 refusal-writes-nothing = record {

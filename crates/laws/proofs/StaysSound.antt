@@ -25,9 +25,9 @@ use Rattle.laws.proofs.ListedNumber.{refusal-number}
 pub leaves-packing : (c : Call) {t : List ℕ} {s : State} {a : Answer} {s′ : State} → T (sends-word (c .ask)) → Packs t s
     → run (whole true c (wiring s)) s ≡ accepted a s′ → Packs (pack s′) s′
 leaves-packing c {s = s} {a = a} {s′ = s′} small h =
-    whole-by true c (wiring s) (λ r. run r s ≡ accepted a s′ → Packs (pack s′) s′)
+    whole-by c (wiring s) (λ r. run r s ≡ accepted a s′ → Packs (pack s′) s′)
     (λ why e. let z : _≡_ {A = ℕ} 0 1 = cc in absurd (omega arith))
-    (λ _ there e. record { good = stays-valid s (c .core) (c .ask) a s′ small (h .good) there e; packed = refl })
+    (λ there e. record { good = stays-valid s (c .core) (c .ask) a s′ small (h .good) there e; packed = refl })
 
 -- an outcome on a sound table leaves it sound, if what is accepted does
 ran-sound : (t answer : List ℕ) (x : Ran Answer) → T (sound t) → ((a : Answer) (s : State) → x ≡ accepted a s → T (sound (pack s)))
@@ -40,6 +40,7 @@ built-sound : (t : List ℕ) (s : State) (o : Option Refusal) → (o ≡ none �
 built-sound t s none keeps h = sound-means (pack s) .1 (s, keeps refl, refl)
 built-sound t s (some why) keeps h = absurd (omega (arith, leb→le 20 (number-of (no-because why)) (refusal-number why .1)))
 
+-- Every call on a sound table leaves it sound, and an accepted set-up leaves a sound table.
 pub stays-sound : StaysSound
 unfolding set-up-call
 stays-sound = record {

@@ -20,21 +20,19 @@ abbrev guarded : {A : Type 0} → (long is-sound there : Bool) → (Refusal → 
 guarded long is-sound there refuses own =
     if long then (if is-sound then (if there then own else refuses CORE) else refuses DAMAGED) else refuses ANSWER
 
--- the whole rule of a call, on a table that is sound or not
+-- the whole rule of a call, on a table that is sound or isn't
 abbrev pub whole : Bool → Call → Wiring → Rule Answer
 whole is-sound c w = guarded (eqb (length (c .answer)) 3) is-sound (ltb (c .core) (w .K)) refuse (rule-of w (c .ask) (c .core))
 
--- what holds of every refusal, and of the call's own rule on a sound table that has its core, holds of the whole rule
-pub whole-by : (is-sound : Bool) (c : Call) (w : Wiring) (P : Rule Answer → Type 0) → ((why : Refusal) → P (refuse why))
-    → (T is-sound → c .core < w .K → P (rule-of w (c .ask) (c .core))) → P (whole is-sound c w)
-whole-by is-sound c w P refuses own = go (eqb (length (c .answer)) 3) is-sound (ltb (c .core) (w .K)) (λ h. h) (ltb→lt (c .core) (w .K))
+-- what holds of every refusal, and of the call's own rule where its core is there, holds of the whole rule on a sound table
+pub whole-by : (c : Call) (w : Wiring) (P : Rule Answer → Type 0) → ((why : Refusal) → P (refuse why))
+    → (c .core < w .K → P (rule-of w (c .ask) (c .core))) → P (whole true c w)
+whole-by c w P refuses own = go (eqb (length (c .answer)) 3) (ltb (c .core) (w .K)) (ltb→lt (c .core) (w .K))
   where
-    go : (long good there : Bool) → (T good → T is-sound) → (T there → c .core < w .K)
-        → P (guarded long good there refuse (rule-of w (c .ask) (c .core)))
-    go true true true h g = own (h tt) (g tt)
-    go true true false h g = refuses CORE
-    go true false there h g = refuses DAMAGED
-    go false good there h g = refuses ANSWER
+    go : (long there : Bool) → (T there → c .core < w .K) → P (guarded long true there refuse (rule-of w (c .ask) (c .core)))
+    go true true h = own (h tt)
+    go true false h = refuses CORE
+    go false there h = refuses ANSWER
 
 module _ (t answer : List ℕ) (k : ℕ) (ask : Ask) where
   -- what a call comes to, on any table
@@ -46,9 +44,11 @@ module _ (t answer : List ℕ) (k : ℕ) (ask : Ask) where
   unfolding call
   called = go (eqb (length answer) 3) (sound t) (ltb k (length (view t .cores)))
     where
+      -- the call's own rule
       own : Rule Answer
       own = rule-of (wiring (view t)) ask k
 
+      -- each test before it chooses the result as it chooses the rule
       go : (long is-sound there : Bool)
           → guarded long is-sound there (refusal t answer) (outcome-of t answer (run own (view t)))
           ≡ outcome-of t answer (run (guarded long is-sound there refuse own) (view t))
@@ -74,14 +74,17 @@ packs-view {s = s} h = ap view (h .packed) ∙ view-of-pack s (h .good)
 
 -- a sound table packs what is read out of it
 pub sound-packs : (t : List ℕ) → T (sound t) → Packs t (view t)
-sound-packs t sounds = let (s, v, e) = sound-means t .0 sounds in let h : Packs t s = record { good = v; packed = e } in rw (packs-view h) h
+sound-packs t sounds =
+    let (s, good, packed) = sound-means t .0 sounds in
+    let h : Packs t s = record { good = good; packed = packed } in
+    rw (packs-view h) h
 
 -- a test that holds is true
 holds : (b : Bool) → T b → b ≡ true
 holds true h = refl
 holds false h = absurd h
 
--- there, a call's result is the outcome of what its whole rule comes to from the state
+-- on the packing of a valid state, a call's result is the outcome of what its whole rule comes to from that state
 pub on-packing : (c : Call) {t : List ℕ} {s : State} {x : Ran Answer} → Packs t s → run (whole true c (wiring s)) s ≡ x
     → perform c t ≡ outcome-of t (c .answer) x
 on-packing c {t} h e = rw (called, holds (sound t) (packs-sound h), packs-view h, e)
