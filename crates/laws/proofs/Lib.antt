@@ -1,1 +1,6 @@
+pub mod Whole
 pub mod SameResult
+pub mod ListedNumber
+pub mod RefusalWritesNothing
+pub mod StaysSound
+pub mod EitherOrder
