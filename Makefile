@@ -1,0 +1,32 @@
+# Fontarisca: the two commands are `make run` and `make test`. Everything that is made goes below target/.
+.DEFAULT_GOAL := help
+CFLAGS := -std=c11 -O2 -Wall -Wextra -Werror -Iinclude -Ihost
+LIBRARY := target/staticlib/libfontarisca.a
+HOSTS := target/host/ring target/host/collectors
+
+.PHONY: help run test hosts header clean
+
+help: ## list the targets
+	@grep -E '^[a-z]+:.*## ' $(MAKEFILE_LIST) | sed -E 's/^([a-z]+):.*## /  \1: /'
+
+run: hosts ## build the static library and the hosts, and run the ring and the collectors
+	target/host/ring
+	target/host/collectors
+
+test: ## test everything: what the gate runs
+	.ci/run
+
+hosts: $(HOSTS) ## build the hosts in C
+
+header: ## compile the header as C and as C++, and compare its numbers with docs/NUMBERS.md
+	host/test-header
+
+$(LIBRARY): $(shell find crates -name '*.rt' -o -name '*.antt') crates.txt
+	rt staticlib fontarisca
+
+target/host/%: host/%.c host/card.c host/card.h include/fontarisca.h $(LIBRARY)
+	@mkdir -p target/host
+	$(CC) $(CFLAGS) $< host/card.c $(LIBRARY) -o $@
+
+clean: ## remove what was made
+	rm -rf target

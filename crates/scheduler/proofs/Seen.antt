@@ -1,0 +1,47 @@
+-- What the words that the scheduler reads say of the state.
+use Prim.Native.Nat.{ℕ, zero, suc, _+_, _≤_, _<_}
+use mathlib.Core.Path.{_≡_, refl, sym, ap, _∙_, subst}
+use mathlib.Core.Bool.{Bool, true, false}
+use mathlib.Core.List.{List, [], _∷_}
+use native.Mathlib.Omega.{arith}
+use native.Mathlib.Nat.{zero-add}
+use lib.Dec.{T, eqb}
+use lib.ListN.{length, getD, take}
+use borrow.Author.Tests.{eq-eqb, ne-eqb}
+use Rattle.rules.specs.Lists.{tabulate, nth}
+use Rattle.rules.specs.State.{
+  Place, running, queued, asleep, ended, sending, receiving, look, park, copy, clear, wake, enable-look, raise, place-name, ready-from-look,
+  ready-from-place, wait, disable, lower, finish, go, sent, got, chose, Progress, nothing, doing, due, Process, no-task, trigger, wake-up, Work, runs, free, Core, State
+}
+use Rattle.rules.specs.Items.{no-core, no-process, core-of, process-of}
+use Rattle.rules.specs.Packing.{
+  pack, view, view-core, view-process, K-of, N-of, core-at, process-at, core-word, process-word, work-from, progress-from, ready-from, place-from, place-number, progress-words
+}
+use Rattle.rules.specs.Soundness.{sound, on-cores, in-queues, runs-it, fits, stands}
+use Rattle.packing.proofs.Tabulate.{tabulate-at}
+use Rattle.parts.specs.Does.{Card, At}
+use Rattle.parts.proofs.Card.{facts, cores-are, processes-are, K-is, N-is}
+
+module _ (t : List ℕ) where
+  -- a core and a process that are there are what the view reads at their words
+  pub core-seen : (k : ℕ) → k < K-of t → core-of (view t) k ≡ view-core t k
+  unfolding view
+  core-seen k h = tabulate-at (view-core t) 0 (K-of t) no-core k h ∙ ap (view-core t) (zero-add k)
+
+  pub process-seen : (p : ℕ) → 1 ≤ p → p ≤ N-of t → process-of (view t) p ≡ view-process t p
+  unfolding view
+  process-seen zero low high = absurd (omega arith)
+  process-seen (suc i) low high =
+      tabulate-at (view-process t) 1 (N-of t) no-process i (omega arith) ∙ ap (view-process t) (let e : 1 + i ≡ suc i = omega arith in e)
+
+  -- the work of a core and the progress of a process, as they are read
+  pub work-seen : (k : ℕ) → k < K-of t → core-of (view t) k .work ≡ work-from (core-word t k 0) (core-word t k 1) (core-word t k 2)
+  unfolding view-core
+  work-seen k h = ap (λ (c : Core). c .work) (core-seen k h)
+
+  pub progress-seen : (p : ℕ) → 1 ≤ p → p ≤ N-of t
+      → process-of (view t) p .progress
+      ≡ progress-from (process-word t p 6) (process-word t p 7) (process-word t p 8) (take (process-word t p 9) (tabulate (process-word t p) 12 8))
+          (process-word t p 10) (ready-from (process-word t p 11))
+  unfolding view-process
+  progress-seen p low high = ap (λ (r : Process). r .progress) (process-seen p low high)
