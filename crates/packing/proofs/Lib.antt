@@ -1,2 +1,10 @@
 pub mod Regions
 pub mod Blocks
+pub mod Reflect
+pub mod Sums
+pub mod Chains
+pub mod Reading
+pub mod ViewChannel
+pub mod ViewCore
+pub mod ViewProcess
+pub mod Means
