@@ -1,0 +1,227 @@
+-- What the walks of the check find. Each walk is exact: it finds no flaw just where what it looks for holds, and then it has met just
+-- what it went over.
+use Prim.Native.Nat.{ℕ, zero, suc, _+_, _*_, _≤_, _<_}
+use mathlib.Core.Path.{_≡_, refl, sym, ap, _∙_, subst}
+use mathlib.Core.Bool.{Bool, true, false, _&&_}
+use mathlib.Core.List.{List, [], _∷_, map}
+use native.Mathlib.Omega.{arith}
+use lib.Dec.{T, eqb, leb, eqb→eq, eqb-refl, le→leb, eqb·suc-zero}
+use lib.ListN.{length, getD, set, length-set}
+use lib.Seq.{getD-set-same, getD-set-other}
+use borrow.Author.Tests.{eqb-true, eqb-false, leb-true, leb-false, eq-eqb, ne-eqb}
+use Rattle.rules.specs.Lists.{if_then_else_, within, total, bit, times}
+use Rattle.rules.specs.Packing.{core-at, process-at, chain}
+use Rattle.packing.proofs.Reflect.{both, three, and, within-means}
+use Rattle.packing.proofs.Sums.{head-stands}
+use Rattle.soundness.proofs.Tests.{equal-holds, within-holds, all-three}
+use Rattle.soundness.specs.Twin.{word, fresh, Walk, flaw, well, and-then, chain-walk, batch-walk}
+
+-- Exact walks
+
+-- The walk finds no flaw exactly where P holds, and then what was met has the property Q.
+abbrev pub Exact : Type 0 → (List ℕ → Type 0) → Walk → Type 0
+Exact P Q flaw = P → ⊥
+Exact P Q (well met) = P × Q met
+
+module _ (P : Type 0) (Q : List ℕ → Type 0) where
+  -- a test that P asks for, then a walk
+  exact-if : (t : Bool) (w : Walk) → (P → T t) → (T t → Exact P Q w) → Exact P Q (if t then w else flaw)
+  exact-if true w need rest = rest tt
+  exact-if false w need rest = need
+
+  -- a walk, then another
+  exact-then : (P′ : Type 0) (Q′ : List ℕ → Type 0) (w : Walk) (f : List ℕ → Walk) → Exact P′ Q′ w → (P → P′)
+      → ((met : List ℕ) → P′ → Q′ met → Exact P Q (f met)) → Exact P Q (and-then w f)
+  exact-then P′ Q′ flaw f e part rest = λ h. e (part h)
+  exact-then P′ Q′ (well met) f e part rest = rest met (e .0) (e .1)
+
+  -- a walk that is exact for something else that says the same
+  exact-as : (P′ : Type 0) (Q′ : List ℕ → Type 0) (w : Walk) → (P′ → P) → (P → P′) → ((met : List ℕ) → P → Q′ met → Q met)
+      → Exact P′ Q′ w → Exact P Q w
+  exact-as P′ Q′ flaw to back met e = λ h. e (back h)
+  exact-as P′ Q′ (well m) to back met e = let h = to (e .0) in (h, met m h (e .1))
+
+-- What was met
+
+-- the numbers of what was met are those of c
+pub record Met (N : ℕ) (c : ℕ → ℕ) (met : List ℕ) : Type 0 where
+  pub room : N < length met
+  pub each : (q : ℕ) → 1 ≤ q → q ≤ N → getD met q 0 ≡ c q
+
+-- what stands m times is a process that isn't counted by c, and stands once
+abbrev pub Apart : ℕ → (ℕ → ℕ) → (ℕ → ℕ) → Type 0
+Apart N c m = (q : ℕ) → 1 ≤ m q → (1 ≤ q) × (q ≤ N) × (c q ≡ 0) × (m q ≤ 1)
+
+-- c′ counts what c counts and what stands m times
+abbrev pub Grown : (ℕ → ℕ) → (ℕ → ℕ) → (ℕ → ℕ) → Type 0
+Grown c m c′ = (q : ℕ) → (c′ q ≡ 0 → c q + m q ≡ 0) × (c q + m q ≡ 0 → c′ q ≡ 0)
+
+module _ (N : ℕ) (c m c′ m′ : ℕ → ℕ) where
+  -- the first part of what is apart
+  apart-first : Apart N c (λ q. m q + m′ q) → Apart N c m
+  apart-first a q h = let r = a q (omega arith) in (r .0, r .1, r .2, omega arith)
+
+  -- the second part, once the first is counted
+  apart-second : Grown c m c′ → Apart N c (λ q. m q + m′ q) → Apart N c′ m′
+  apart-second g a q h = let r = a q (omega arith) in (r .0, r .1, g q .1 (omega arith), omega arith)
+
+  -- both parts together
+  apart-both : Grown c m c′ → Apart N c m → Apart N c′ m′ → Apart N c (λ q. m q + m′ q)
+  apart-both g a b q h = cases (leb 1 (m′ q)) refl
+    where
+      cases : (t : Bool) → leb 1 (m′ q) ≡ t → (1 ≤ q) × (q ≤ N) × (c q ≡ 0) × (m q + m′ q ≤ 1)
+      cases true e = let r = b q (leb-true 1 (m′ q) e) in let z = g q .0 (r .2) in (r .0, r .1, omega arith, omega arith)
+      cases false e = let l = leb-false 1 (m′ q) e in let r = a q (omega arith) in (r .0, r .1, r .2, omega arith)
+
+module _ (N : ℕ) (c : ℕ → ℕ) (met : List ℕ) (agrees : Met N c met) where
+  -- who is fresh is a process that isn't counted
+  fresh-means : (p : ℕ) → T (fresh N met p) → (1 ≤ p) × (p ≤ N) × (c p ≡ 0)
+  fresh-means p h =
+      let t = both (within 1 N p) (eqb (getD met p 0) 0) h in
+      let r = within-means 1 N p (t .0) in
+      (r .0, r .1, sym (agrees .each p (r .0) (r .1)) ∙ eqb→eq (getD met p 0) 0 (t .1))
+
+  means-fresh : (p : ℕ) → 1 ≤ p → p ≤ N → c p ≡ 0 → T (fresh N met p)
+  means-fresh p l b z =
+      and (within 1 N p) (eqb (getD met p 0) 0) (within-holds 1 N p l b) (equal-holds (getD met p 0) 0 (agrees .each p l b ∙ z))
+
+  -- another number for one process
+  met-set : (c′ : ℕ → ℕ) (p v : ℕ) → 1 ≤ p → p ≤ N → c′ p ≡ v → ((q : ℕ) → (p ≡ q → ⊥) → c′ q ≡ c q) → Met N c′ (set met p v)
+  met-set c′ p v l b here other =
+      record { room = omega (arith, agrees .room, length-set met p v); each = λ q l′ b′. cases q l′ b′ (eqb p q) refl }
+    where
+      cases : (q : ℕ) → 1 ≤ q → q ≤ N → (t : Bool) → eqb p q ≡ t → getD (set met p v) q 0 ≡ c′ q
+      cases q l′ b′ true e =
+          let same : p ≡ q = eqb-true p q e in
+          subst (λ (r : ℕ). getD (set met p v) r 0 ≡ c′ r) same (getD-set-same met p v 0 (omega (arith, agrees .room)) ∙ sym here)
+      cases q l′ b′ false e =
+          let ne : p ≡ q → ⊥ = eqb-false p q e in
+          getD-set-other met p q v 0 (λ x. ne (sym x)) ∙ agrees .each q l′ b′ ∙ sym (other q ne)
+
+-- Queues
+
+-- from p on, the links go over the list, and end behind it
+abbrev pub Linked : (ℕ → ℕ) → ℕ → List ℕ → Type 0
+Linked link p [] = p ≡ 0
+Linked link p (x ∷ xs) = (p ≡ x) × Linked link (link x) xs
+
+-- the last of a list; d where it is empty
+abbrev pub last-from : ℕ → List ℕ → ℕ
+last-from d [] = d
+last-from d (x ∷ xs) = last-from x xs
+
+-- a queue: it is linked from p on, and its last and its size, counted on from those given, are these
+pub record Queue (link : ℕ → ℕ) (at-last at-size p last size : ℕ) (l : List ℕ) : Type 0 where
+  pub linked : Linked link p l
+  pub last-is : at-last ≡ last-from last l
+  pub size-is : at-size ≡ size + length l
+
+-- one more for what stands in one place
+abbrev one-more : ℕ → ℕ → ℕ
+one-more p q = bit (eqb p q)
+
+one-here : (p : ℕ) → one-more p p ≡ 1
+one-here p = ap bit (eq-eqb p p refl)
+
+one-elsewhere : (p q : ℕ) → (p ≡ q → ⊥) → one-more p q ≡ 0
+one-elsewhere p q ne = ap bit (ne-eqb p q ne)
+
+-- a process that isn't counted, alone
+apart-one : (N : ℕ) (c : ℕ → ℕ) (p : ℕ) → (1 ≤ p) × (p ≤ N) × (c p ≡ 0) → Apart N c (one-more p)
+apart-one N c p r q h = cases (eqb p q) refl
+  where
+    cases : (t : Bool) → eqb p q ≡ t → (1 ≤ q) × (q ≤ N) × (c q ≡ 0) × (one-more p q ≤ 1)
+    cases true e =
+        let same : p ≡ q = eqb-true p q e in
+        let none : c q ≡ 0 = ap c (sym same) ∙ r .2 in (omega arith, omega arith, none, omega (arith, ap bit e))
+    cases false e = absurd (omega (arith, ap bit e))
+
+-- what is met once such a process has the number v
+met-one : (N : ℕ) (c : ℕ → ℕ) (met : List ℕ) → Met N c met → (v p : ℕ) → (1 ≤ p) × (p ≤ N) × (c p ≡ 0) → Met N (λ q. c q + v * one-more p q) (set met p v)
+met-one N c met agrees v p r =
+    met-set N c met agrees (λ q. c q + v * one-more p q) p v (r .0) (r .1) (rw (one-here p) (omega (arith, r .2)))
+    (λ q ne. rw (one-elsewhere p q ne) (omega arith))
+
+module _ (t : List ℕ) (K N : ℕ) where
+  abbrev pub next-of : ℕ → ℕ
+  next-of p = word t (process-at K p 20)
+
+  module _ (a : ℕ) where
+    abbrev QueueFrom : ℕ → (ℕ → ℕ) → ℕ → ℕ → ℕ → Type 0
+    QueueFrom n c p last size =
+        Queue next-of (word t a) (word t (a + 1)) p last size (chain next-of n p) × Apart N c (λ q. times q (chain next-of n p))
+
+    abbrev MetFrom : ℕ → (ℕ → ℕ) → ℕ → List ℕ → Type 0
+    MetFrom n c p = Met N (λ q. c q + 2 * times q (chain next-of n p))
+
+    -- the end of a queue is found exactly
+    end-exact : (met : List ℕ) (c : ℕ → ℕ) (p last size : ℕ) → Met N c met
+        → Exact (QueueFrom 0 c p last size) (MetFrom 0 c p) (if eqb p 0 && eqb (word t a) last && eqb (word t (a + 1)) size then well met else flaw)
+    end-exact met c p last size agrees =
+        exact-if (QueueFrom 0 c p last size) (MetFrom 0 c p) (eqb p 0 && eqb (word t a) last && eqb (word t (a + 1)) size) (well met) need rest
+      where
+        need : QueueFrom 0 c p last size → T (eqb p 0 && eqb (word t a) last && eqb (word t (a + 1)) size)
+        need h =
+            let q = h .0 in
+            all-three (eqb p 0) (eqb (word t a) last) (eqb (word t (a + 1)) size)
+            (equal-holds p 0 (q .linked)) (equal-holds (word t a) last (q .last-is)) (equal-holds (word t (a + 1)) size (omega (arith, q .size-is)))
+
+        rest : T (eqb p 0 && eqb (word t a) last && eqb (word t (a + 1)) size) → QueueFrom 0 c p last size × MetFrom 0 c p met
+        rest h =
+            let r = three (eqb p 0) (eqb (word t a) last) (eqb (word t (a + 1)) size) h in
+            let size-is : word t (a + 1) ≡ size + 0 = omega (arith, eqb→eq (word t (a + 1)) size (r .2)) in
+            ((record { linked = eqb→eq p 0 (r .0); last-is = eqb→eq (word t a) last (r .1); size-is = size-is }, λ q b. absurd (omega arith)),
+              record { room = agrees .room; each = λ q l b. omega (arith, agrees .each q l b) })
+
+    -- a queue is found exactly
+    pub chain-exact : (n : ℕ) (met : List ℕ) (c : ℕ → ℕ) (p last size : ℕ) → Met N c met
+        → Exact (QueueFrom n c p last size) (MetFrom n c p) (chain-walk t K N a n met p last size)
+    chain-exact zero met c p last size agrees = end-exact met c p last size agrees
+    chain-exact (suc n) met c zero last size agrees = end-exact met c zero last size agrees
+    chain-exact (suc n) met c (suc p) last size agrees =
+        rw eqb·suc-zero
+        (exact-if P Q (fresh N met (suc p)) rest-walk need (λ f. let r = fresh-means N c met agrees (suc p) f in
+          exact-as P Q P′ Q′ rest-walk (to r) back (λ m h. met-more m)
+          (chain-exact n (set met (suc p) 2) c′ (next-of (suc p)) (suc p) (size + 1) (met-one N c met agrees 2 (suc p) r))))
+      where
+        rest-walk : Walk
+        rest-walk = chain-walk t K N a n (set met (suc p) 2) (next-of (suc p)) (suc p) (size + 1)
+
+        behind : List ℕ
+        behind = chain next-of n (next-of (suc p))
+
+        c′ : ℕ → ℕ
+        c′ q = c q + 2 * one-more (suc p) q
+
+        P : Type 0
+        P = QueueFrom (suc n) c (suc p) last size
+
+        Q : List ℕ → Type 0
+        Q = MetFrom (suc n) c (suc p)
+
+        P′ : Type 0
+        P′ = QueueFrom n c′ (next-of (suc p)) (suc p) (size + 1)
+
+        Q′ : List ℕ → Type 0
+        Q′ = MetFrom n c′ (next-of (suc p))
+
+        need : P → T (fresh N met (suc p))
+        need h =
+            let r = h .1 (suc p) (omega (arith, head-stands (suc p) behind)) in
+            means-fresh N c met agrees (suc p) (r .0) (r .1) (r .2)
+
+        grown : Grown c (one-more (suc p)) c′
+        grown q = (λ e. omega arith, λ e. omega arith)
+
+        to : (1 ≤ suc p) × (suc p ≤ N) × (c (suc p) ≡ 0) → P′ → P
+        to r h =
+            (record { linked = (refl, h .0 .linked); last-is = h .0 .last-is; size-is = omega (arith, h .0 .size-is) },
+              apart-both N c (one-more (suc p)) c′ (λ q. times q behind) grown (apart-one N c (suc p) r) (h .1))
+
+        back : P → P′
+        back h =
+            (record { linked = h .0 .linked .1; last-is = h .0 .last-is; size-is = omega (arith, h .0 .size-is) },
+              apart-second N c (one-more (suc p)) c′ (λ q. times q behind) grown (h .1))
+
+        met-more : (m : List ℕ) → Q′ m → Q m
+        met-more m g = record { room = g .room; each = λ q l b. omega (arith, g .each q l b) }
