@@ -126,6 +126,19 @@ one-here p = ap bit (eq-eqb p p refl)
 one-elsewhere : (p q : ℕ) → (p ≡ q → ⊥) → one-more p q ≡ 0
 one-elsewhere p q ne = ap bit (ne-eqb p q ne)
 
+-- the first of a linked list stands in it
+pub first-stands : (link : ℕ → ℕ) (p : ℕ) (l : List ℕ) → Linked link p l → 1 ≤ p → (q : ℕ) → one-more p q ≤ times q l
+first-stands link p [] h b q = absurd (omega arith)
+first-stands link p (x ∷ xs) h b q = omega (arith, ap (λ (y : ℕ). one-more y q) (h .0))
+
+-- what holds of a number, and of each in a list, holds of each in both
+each-more : (C : ℕ → Type 0) (x : ℕ) (xs : List ℕ) → C x → ((y : ℕ) → 1 ≤ times y xs → C y) → (y : ℕ) → 1 ≤ times y (x ∷ xs) → C y
+each-more C x xs here rest y b = cases (eqb x y) refl
+  where
+    cases : (t : Bool) → eqb x y ≡ t → C y
+    cases true e = subst C (eqb-true x y e) here
+    cases false e = rest y (omega (arith, ap bit e))
+
 -- a process that isn't counted, alone
 apart-one : (N : ℕ) (c : ℕ → ℕ) (p : ℕ) → (1 ≤ p) × (p ≤ N) × (c p ≡ 0) → Apart N c (one-more p)
 apart-one N c p r q h = cases (eqb p q) refl
@@ -222,6 +235,127 @@ module _ (t : List ℕ) (K N : ℕ) where
         back h =
             (record { linked = h .0 .linked .1; last-is = h .0 .last-is; size-is = omega (arith, h .0 .size-is) },
               apart-second N c (one-more (suc p)) c′ (λ q. times q behind) grown (h .1))
+
+        met-more : (m : List ℕ) → Q′ m → Q m
+        met-more m g = record { room = g .room; each = λ q l b. omega (arith, g .each q l b) }
+
+  -- Batches
+
+  abbrev pub batch-behind : ℕ → ℕ
+  batch-behind h = word t (process-at K h 23)
+
+  abbrev pub batch-of : ℕ → List ℕ
+  batch-of h = chain next-of N h
+
+  -- the batch of a head: its last and its size stand in the head's words 21 and 22
+  pub record Batch (h : ℕ) : Type 0 where
+    pub low : 1 ≤ h
+    pub high : h ≤ N
+    pub queue : Queue next-of (word t (process-at K h 21)) (word t (process-at K h 21 + 1)) h 0 0 (batch-of h)
+
+  -- the heads of a core's batches, the last of them counted on from the one given
+  pub record Heads (at-last head prev : ℕ) (l : List ℕ) : Type 0 where
+    pub linked : Linked batch-behind head l
+    pub last-is : at-last ≡ last-from prev l
+    pub each : (h : ℕ) → 1 ≤ times h l → Batch h
+
+  module _ (k : ℕ) where
+    abbrev HeadsFrom : ℕ → (ℕ → ℕ) → ℕ → ℕ → Type 0
+    HeadsFrom n c head prev =
+        let l = chain batch-behind n head in Heads (word t (core-at k 9)) head prev l × Apart N c (λ q. total (times q) (map batch-of l))
+
+    abbrev MetHeads : ℕ → (ℕ → ℕ) → ℕ → List ℕ → Type 0
+    MetHeads n c head = let l = chain batch-behind n head in Met N (λ q. c q + 2 * total (times q) (map batch-of l) + times q l)
+
+    -- the end of the batches is found exactly
+    heads-end-exact : (met : List ℕ) (c : ℕ → ℕ) (head prev : ℕ) → Met N c met
+        → Exact (HeadsFrom 0 c head prev) (MetHeads 0 c head) (if eqb head 0 && eqb (word t (core-at k 9)) prev then well met else flaw)
+    heads-end-exact met c head prev agrees =
+        exact-if (HeadsFrom 0 c head prev) (MetHeads 0 c head) (eqb head 0 && eqb (word t (core-at k 9)) prev) (well met) need rest
+      where
+        need : HeadsFrom 0 c head prev → T (eqb head 0 && eqb (word t (core-at k 9)) prev)
+        need h =
+            and (eqb head 0) (eqb (word t (core-at k 9)) prev) (equal-holds head 0 (h .0 .linked)) (equal-holds (word t (core-at k 9)) prev (h .0 .last-is))
+
+        rest : T (eqb head 0 && eqb (word t (core-at k 9)) prev) → HeadsFrom 0 c head prev × MetHeads 0 c head met
+        rest h =
+            let r = both (eqb head 0) (eqb (word t (core-at k 9)) prev) h in
+            ((record { linked = eqb→eq head 0 (r .0); last-is = eqb→eq (word t (core-at k 9)) prev (r .1); each = λ q b. absurd (omega arith) },
+              λ q b. absurd (omega arith)),
+              record { room = agrees .room; each = λ q l b. omega (arith, agrees .each q l b) })
+
+    -- the batches are found exactly
+    pub batch-exact : (n : ℕ) (met : List ℕ) (c : ℕ → ℕ) (head prev : ℕ) → Met N c met
+        → Exact (HeadsFrom n c head prev) (MetHeads n c head) (batch-walk t K N k n met head prev)
+    batch-exact zero met c head prev agrees = heads-end-exact met c head prev agrees
+    batch-exact (suc n) met c zero prev agrees = heads-end-exact met c zero prev agrees
+    batch-exact (suc n) met c (suc h) prev agrees =
+        rw eqb·suc-zero
+        (exact-if P Q (within 1 N head) (and-then (chain-walk t K N a N met head 0 0) rest-walk) need
+        (λ f. exact-then P Q (QueueFrom a N c head 0 0) (MetFrom a N c head) (chain-walk t K N a N met head 0 0) rest-walk
+          (chain-exact a N met c head 0 0 agrees) first
+          (λ m e g. exact-as P Q P′ Q′ (rest-walk m) (to f e) (back e) (λ m′ h. met-more m′) (batch-exact n (set m head 3) c′ (batch-behind head) head (marked f e m g)))))
+      where
+        head : ℕ
+        head = suc h
+
+        a : ℕ
+        a = process-at K head 21
+
+        rest-walk : List ℕ → Walk
+        rest-walk m = batch-walk t K N k n (set m head 3) (batch-behind head) head
+
+        behind : List ℕ
+        behind = chain batch-behind n (batch-behind head)
+
+        c′ : ℕ → ℕ
+        c′ q = c q + 2 * times q (batch-of head) + one-more head q
+
+        P : Type 0
+        P = HeadsFrom (suc n) c head prev
+
+        Q : List ℕ → Type 0
+        Q = MetHeads (suc n) c head
+
+        P′ : Type 0
+        P′ = HeadsFrom n c′ (batch-behind head) head
+
+        Q′ : List ℕ → Type 0
+        Q′ = MetHeads n c′ (batch-behind head)
+
+        batch : P → Batch head
+        batch h = h .0 .each head (omega (arith, head-stands head behind))
+
+        need : P → T (within 1 N head)
+        need h = let b = batch h in within-holds 1 N head (b .low) (b .high)
+
+        first : P → QueueFrom a N c head 0 0
+        first h = (batch h .queue, apart-first N c (λ q. times q (batch-of head)) c′ (λ q. total (times q) (map batch-of behind)) (h .1))
+
+        grown : QueueFrom a N c head 0 0 → Grown c (λ q. times q (batch-of head)) c′
+        grown e q = (λ z. omega arith, λ z. omega (arith, first-stands next-of head (batch-of head) (e .0 .linked) (omega arith) q))
+
+        marked : T (within 1 N head) → QueueFrom a N c head 0 0 → (m : List ℕ) → MetFrom a N c head m → Met N c′ (set m head 3)
+        marked f e m g =
+            let r = within-means 1 N head f in
+            let one : one-more head head ≡ 1 = one-here head in
+            let here = e .1 head (omega (arith, first-stands next-of head (batch-of head) (e .0 .linked) (omega arith) head)) in
+            met-set N (λ q. c q + 2 * times q (batch-of head)) m g c′ head 3 (r .0) (r .1)
+            (omega (arith, here, first-stands next-of head (batch-of head) (e .0 .linked) (omega arith) head))
+            (λ q ne. omega (arith, one-elsewhere head q ne))
+
+        this : T (within 1 N head) → QueueFrom a N c head 0 0 → Batch head
+        this f e = let r = within-means 1 N head f in record { low = r .0; high = r .1; queue = e .0 }
+
+        to : T (within 1 N head) → QueueFrom a N c head 0 0 → P′ → P
+        to f e h =
+            (record { linked = (refl, h .0 .linked); last-is = h .0 .last-is; each = each-more Batch head behind (this f e) (h .0 .each) },
+              apart-both N c (λ q. times q (batch-of head)) c′ (λ q. total (times q) (map batch-of behind)) (grown e) (e .1) (h .1))
+
+        back : QueueFrom a N c head 0 0 → P → P′
+        back e h =
+            (record { linked = h .0 .linked .1; last-is = h .0 .last-is; each = λ x b. h .0 .each x (omega arith) },
+              apart-second N c (λ q. times q (batch-of head)) c′ (λ q. total (times q) (map batch-of behind)) (grown e) (h .1))
 
         met-more : (m : List ℕ) → Q′ m → Q m
         met-more m g = record { room = g .room; each = λ q l b. omega (arith, g .each q l b) }
