@@ -25,18 +25,18 @@ Exact P Q (well met) = P × Q met
 
 module _ (P : Type 0) (Q : List ℕ → Type 0) where
   -- a test that P asks for, then a walk
-  exact-if : (t : Bool) (w : Walk) → (P → T t) → (T t → Exact P Q w) → Exact P Q (if t then w else flaw)
+  pub exact-if : (t : Bool) (w : Walk) → (P → T t) → (T t → Exact P Q w) → Exact P Q (if t then w else flaw)
   exact-if true w need rest = rest tt
   exact-if false w need rest = need
 
   -- a walk, then another
-  exact-then : (P′ : Type 0) (Q′ : List ℕ → Type 0) (w : Walk) (f : List ℕ → Walk) → Exact P′ Q′ w → (P → P′)
+  pub exact-then : (P′ : Type 0) (Q′ : List ℕ → Type 0) (w : Walk) (f : List ℕ → Walk) → Exact P′ Q′ w → (P → P′)
       → ((met : List ℕ) → P′ → Q′ met → Exact P Q (f met)) → Exact P Q (and-then w f)
   exact-then P′ Q′ flaw f e part rest = λ h. e (part h)
   exact-then P′ Q′ (well met) f e part rest = rest met (e .0) (e .1)
 
   -- a walk that is exact for something else that says the same
-  exact-as : (P′ : Type 0) (Q′ : List ℕ → Type 0) (w : Walk) → (P′ → P) → (P → P′) → ((met : List ℕ) → P → Q′ met → Q met)
+  pub exact-as : (P′ : Type 0) (Q′ : List ℕ → Type 0) (w : Walk) → (P′ → P) → (P → P′) → ((met : List ℕ) → P → Q′ met → Q met)
       → Exact P′ Q′ w → Exact P Q w
   exact-as P′ Q′ flaw to back met e = λ h. e (back h)
   exact-as P′ Q′ (well m) to back met e = let h = to (e .0) in (h, met m h (e .1))
@@ -48,6 +48,10 @@ pub record Met (N : ℕ) (c : ℕ → ℕ) (met : List ℕ) : Type 0 where
   pub room : N < length met
   pub each : (q : ℕ) → 1 ≤ q → q ≤ N → getD met q 0 ≡ c q
 
+-- other numbers that are the same
+pub met-as : (N : ℕ) (c c′ : ℕ → ℕ) (met : List ℕ) → ((q : ℕ) → c q ≡ c′ q) → Met N c met → Met N c′ met
+met-as N c c′ met same agrees = record { room = agrees .room; each = λ q l b. agrees .each q l b ∙ same q }
+
 -- what stands m times is a process that isn't counted by c, and stands once
 abbrev pub Apart : ℕ → (ℕ → ℕ) → (ℕ → ℕ) → Type 0
 Apart N c m = (q : ℕ) → 1 ≤ m q → (1 ≤ q) × (q ≤ N) × (c q ≡ 0) × (m q ≤ 1)
@@ -58,15 +62,15 @@ Grown c m c′ = (q : ℕ) → (c′ q ≡ 0 → c q + m q ≡ 0) × (c q + m q 
 
 module _ (N : ℕ) (c m c′ m′ : ℕ → ℕ) where
   -- the first part of what is apart
-  apart-first : Apart N c (λ q. m q + m′ q) → Apart N c m
+  pub apart-first : Apart N c (λ q. m q + m′ q) → Apart N c m
   apart-first a q h = let r = a q (omega arith) in (r .0, r .1, r .2, omega arith)
 
   -- the second part, once the first is counted
-  apart-second : Grown c m c′ → Apart N c (λ q. m q + m′ q) → Apart N c′ m′
+  pub apart-second : Grown c m c′ → Apart N c (λ q. m q + m′ q) → Apart N c′ m′
   apart-second g a q h = let r = a q (omega arith) in (r .0, r .1, g q .1 (omega arith), omega arith)
 
   -- both parts together
-  apart-both : Grown c m c′ → Apart N c m → Apart N c′ m′ → Apart N c (λ q. m q + m′ q)
+  pub apart-both : Grown c m c′ → Apart N c m → Apart N c′ m′ → Apart N c (λ q. m q + m′ q)
   apart-both g a b q h = cases (leb 1 (m′ q)) refl
     where
       cases : (t : Bool) → leb 1 (m′ q) ≡ t → (1 ≤ q) × (q ≤ N) × (c q ≡ 0) × (m q + m′ q ≤ 1)
@@ -75,18 +79,18 @@ module _ (N : ℕ) (c m c′ m′ : ℕ → ℕ) where
 
 module _ (N : ℕ) (c : ℕ → ℕ) (met : List ℕ) (agrees : Met N c met) where
   -- who is fresh is a process that isn't counted
-  fresh-means : (p : ℕ) → T (fresh N met p) → (1 ≤ p) × (p ≤ N) × (c p ≡ 0)
+  pub fresh-means : (p : ℕ) → T (fresh N met p) → (1 ≤ p) × (p ≤ N) × (c p ≡ 0)
   fresh-means p h =
       let t = both (within 1 N p) (eqb (getD met p 0) 0) h in
       let r = within-means 1 N p (t .0) in
       (r .0, r .1, sym (agrees .each p (r .0) (r .1)) ∙ eqb→eq (getD met p 0) 0 (t .1))
 
-  means-fresh : (p : ℕ) → 1 ≤ p → p ≤ N → c p ≡ 0 → T (fresh N met p)
+  pub means-fresh : (p : ℕ) → 1 ≤ p → p ≤ N → c p ≡ 0 → T (fresh N met p)
   means-fresh p l b z =
       and (within 1 N p) (eqb (getD met p 0) 0) (within-holds 1 N p l b) (equal-holds (getD met p 0) 0 (agrees .each p l b ∙ z))
 
   -- another number for one process
-  met-set : (c′ : ℕ → ℕ) (p v : ℕ) → 1 ≤ p → p ≤ N → c′ p ≡ v → ((q : ℕ) → (p ≡ q → ⊥) → c′ q ≡ c q) → Met N c′ (set met p v)
+  pub met-set : (c′ : ℕ → ℕ) (p v : ℕ) → 1 ≤ p → p ≤ N → c′ p ≡ v → ((q : ℕ) → (p ≡ q → ⊥) → c′ q ≡ c q) → Met N c′ (set met p v)
   met-set c′ p v l b here other =
       record { room = omega (arith, agrees .room, length-set met p v); each = λ q l′ b′. cases q l′ b′ (eqb p q) refl }
     where
@@ -117,13 +121,13 @@ pub record Queue (link : ℕ → ℕ) (at-last at-size p last size : ℕ) (l : L
   pub size-is : at-size ≡ size + length l
 
 -- one more for what stands in one place
-abbrev one-more : ℕ → ℕ → ℕ
+abbrev pub one-more : ℕ → ℕ → ℕ
 one-more p q = bit (eqb p q)
 
-one-here : (p : ℕ) → one-more p p ≡ 1
+pub one-here : (p : ℕ) → one-more p p ≡ 1
 one-here p = ap bit (eq-eqb p p refl)
 
-one-elsewhere : (p q : ℕ) → (p ≡ q → ⊥) → one-more p q ≡ 0
+pub one-elsewhere : (p q : ℕ) → (p ≡ q → ⊥) → one-more p q ≡ 0
 one-elsewhere p q ne = ap bit (ne-eqb p q ne)
 
 -- the first of a linked list stands in it
@@ -132,7 +136,7 @@ first-stands link p [] h b q = absurd (omega arith)
 first-stands link p (x ∷ xs) h b q = omega (arith, ap (λ (y : ℕ). one-more y q) (h .0))
 
 -- what holds of a number, and of each in a list, holds of each in both
-each-more : (C : ℕ → Type 0) (x : ℕ) (xs : List ℕ) → C x → ((y : ℕ) → 1 ≤ times y xs → C y) → (y : ℕ) → 1 ≤ times y (x ∷ xs) → C y
+pub each-more : (C : ℕ → Type 0) (x : ℕ) (xs : List ℕ) → C x → ((y : ℕ) → 1 ≤ times y xs → C y) → (y : ℕ) → 1 ≤ times y (x ∷ xs) → C y
 each-more C x xs here rest y b = cases (eqb x y) refl
   where
     cases : (t : Bool) → eqb x y ≡ t → C y
@@ -140,7 +144,7 @@ each-more C x xs here rest y b = cases (eqb x y) refl
     cases false e = rest y (omega (arith, ap bit e))
 
 -- a process that isn't counted, alone
-apart-one : (N : ℕ) (c : ℕ → ℕ) (p : ℕ) → (1 ≤ p) × (p ≤ N) × (c p ≡ 0) → Apart N c (one-more p)
+pub apart-one : (N : ℕ) (c : ℕ → ℕ) (p : ℕ) → (1 ≤ p) × (p ≤ N) × (c p ≡ 0) → Apart N c (one-more p)
 apart-one N c p r q h = cases (eqb p q) refl
   where
     cases : (t : Bool) → eqb p q ≡ t → (1 ≤ q) × (q ≤ N) × (c q ≡ 0) × (one-more p q ≤ 1)
@@ -150,7 +154,7 @@ apart-one N c p r q h = cases (eqb p q) refl
     cases false e = absurd (omega (arith, ap bit e))
 
 -- what is met once such a process has the number v
-met-one : (N : ℕ) (c : ℕ → ℕ) (met : List ℕ) → Met N c met → (v p : ℕ) → (1 ≤ p) × (p ≤ N) × (c p ≡ 0) → Met N (λ q. c q + v * one-more p q) (set met p v)
+pub met-one : (N : ℕ) (c : ℕ → ℕ) (met : List ℕ) → Met N c met → (v p : ℕ) → (1 ≤ p) × (p ≤ N) × (c p ≡ 0) → Met N (λ q. c q + v * one-more p q) (set met p v)
 met-one N c met agrees v p r =
     met-set N c met agrees (λ q. c q + v * one-more p q) p v (r .0) (r .1) (rw (one-here p) (omega (arith, r .2)))
     (λ q ne. rw (one-elsewhere p q ne) (omega arith))
@@ -160,11 +164,11 @@ module _ (t : List ℕ) (K N : ℕ) where
   next-of p = word t (process-at K p 20)
 
   module _ (a : ℕ) where
-    abbrev QueueFrom : ℕ → (ℕ → ℕ) → ℕ → ℕ → ℕ → Type 0
+    abbrev pub QueueFrom : ℕ → (ℕ → ℕ) → ℕ → ℕ → ℕ → Type 0
     QueueFrom n c p last size =
         Queue next-of (word t a) (word t (a + 1)) p last size (chain next-of n p) × Apart N c (λ q. times q (chain next-of n p))
 
-    abbrev MetFrom : ℕ → (ℕ → ℕ) → ℕ → List ℕ → Type 0
+    abbrev pub MetFrom : ℕ → (ℕ → ℕ) → ℕ → List ℕ → Type 0
     MetFrom n c p = Met N (λ q. c q + 2 * times q (chain next-of n p))
 
     -- the end of a queue is found exactly
@@ -184,7 +188,7 @@ module _ (t : List ℕ) (K N : ℕ) where
             let r = three (eqb p 0) (eqb (word t a) last) (eqb (word t (a + 1)) size) h in
             let size-is : word t (a + 1) ≡ size + 0 = omega (arith, eqb→eq (word t (a + 1)) size (r .2)) in
             ((record { linked = eqb→eq p 0 (r .0); last-is = eqb→eq (word t a) last (r .1); size-is = size-is }, λ q b. absurd (omega arith)),
-              record { room = agrees .room; each = λ q l b. omega (arith, agrees .each q l b) })
+              met-as N c _ met (λ q. omega arith) agrees)
 
     -- a queue is found exactly
     pub chain-exact : (n : ℕ) (met : List ℕ) (c : ℕ → ℕ) (p last size : ℕ) → Met N c met
@@ -194,7 +198,7 @@ module _ (t : List ℕ) (K N : ℕ) where
     chain-exact (suc n) met c (suc p) last size agrees =
         rw eqb·suc-zero
         (exact-if P Q (fresh N met (suc p)) rest-walk need (λ f. let r = fresh-means N c met agrees (suc p) f in
-          exact-as P Q P′ Q′ rest-walk (to r) back (λ m h. met-more m)
+          exact-as P Q P′ Q′ rest-walk (to r) back (λ m h. met-as N _ _ m (λ q. omega arith))
           (chain-exact n (set met (suc p) 2) c′ (next-of (suc p)) (suc p) (size + 1) (met-one N c met agrees 2 (suc p) r))))
       where
         rest-walk : Walk
@@ -236,8 +240,6 @@ module _ (t : List ℕ) (K N : ℕ) where
             (record { linked = h .0 .linked .1; last-is = h .0 .last-is; size-is = omega (arith, h .0 .size-is) },
               apart-second N c (one-more (suc p)) c′ (λ q. times q behind) grown (h .1))
 
-        met-more : (m : List ℕ) → Q′ m → Q m
-        met-more m g = record { room = g .room; each = λ q l b. omega (arith, g .each q l b) }
 
   -- Batches
 
@@ -260,11 +262,11 @@ module _ (t : List ℕ) (K N : ℕ) where
     pub each : (h : ℕ) → 1 ≤ times h l → Batch h
 
   module _ (k : ℕ) where
-    abbrev HeadsFrom : ℕ → (ℕ → ℕ) → ℕ → ℕ → Type 0
+    abbrev pub HeadsFrom : ℕ → (ℕ → ℕ) → ℕ → ℕ → Type 0
     HeadsFrom n c head prev =
         let l = chain batch-behind n head in Heads (word t (core-at k 9)) head prev l × Apart N c (λ q. total (times q) (map batch-of l))
 
-    abbrev MetHeads : ℕ → (ℕ → ℕ) → ℕ → List ℕ → Type 0
+    abbrev pub MetHeads : ℕ → (ℕ → ℕ) → ℕ → List ℕ → Type 0
     MetHeads n c head = let l = chain batch-behind n head in Met N (λ q. c q + 2 * total (times q) (map batch-of l) + times q l)
 
     -- the end of the batches is found exactly
@@ -282,7 +284,7 @@ module _ (t : List ℕ) (K N : ℕ) where
             let r = both (eqb head 0) (eqb (word t (core-at k 9)) prev) h in
             ((record { linked = eqb→eq head 0 (r .0); last-is = eqb→eq (word t (core-at k 9)) prev (r .1); each = λ q b. absurd (omega arith) },
               λ q b. absurd (omega arith)),
-              record { room = agrees .room; each = λ q l b. omega (arith, agrees .each q l b) })
+              met-as N c _ met (λ q. omega arith) agrees)
 
     -- the batches are found exactly
     pub batch-exact : (n : ℕ) (met : List ℕ) (c : ℕ → ℕ) (head prev : ℕ) → Met N c met
@@ -294,7 +296,7 @@ module _ (t : List ℕ) (K N : ℕ) where
         (exact-if P Q (within 1 N head) (and-then (chain-walk t K N a N met head 0 0) rest-walk) need
         (λ f. exact-then P Q (QueueFrom a N c head 0 0) (MetFrom a N c head) (chain-walk t K N a N met head 0 0) rest-walk
           (chain-exact a N met c head 0 0 agrees) first
-          (λ m e g. exact-as P Q P′ Q′ (rest-walk m) (to f e) (back e) (λ m′ h. met-more m′) (batch-exact n (set m head 3) c′ (batch-behind head) head (marked f e m g)))))
+          (λ m e g. exact-as P Q P′ Q′ (rest-walk m) (to f e) (back e) (λ m′ h. met-as N _ _ m′ (λ q. omega arith)) (batch-exact n (set m head 3) c′ (batch-behind head) head (marked f e m g)))))
       where
         head : ℕ
         head = suc h
@@ -357,5 +359,3 @@ module _ (t : List ℕ) (K N : ℕ) where
             (record { linked = h .0 .linked .1; last-is = h .0 .last-is; each = λ x b. h .0 .each x (omega arith) },
               apart-second N c (λ q. times q (batch-of head)) c′ (λ q. total (times q) (map batch-of behind)) (grown e) (h .1))
 
-        met-more : (m : List ℕ) → Q′ m → Q m
-        met-more m g = record { room = g .room; each = λ q l b. omega (arith, g .each q l b) }
