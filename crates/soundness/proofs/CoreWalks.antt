@@ -123,7 +123,7 @@ module _ (t : List ℕ) where
   heads-stand k h q =
       let link = next-of t (K-of t) (N-of t) in
       let batch = batch-of t (K-of t) (N-of t) in
-      let e = λ (x : ℕ) (b : 1 ≤ times x (heads-of k)). h .batches .each x b in
+      let e = h .batches .each in
       omega (arith, ap (times q) (heads-are k h),
         members-stand batch q (heads-of k) (λ x b. first-stands link x (batch x) (e x b .queue .linked) (e x b .low) q))
 
