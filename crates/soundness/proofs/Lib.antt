@@ -1,3 +1,5 @@
 pub mod Tests
 pub mod Walks
 pub mod CoreWalks
+pub mod FitsChannel
+pub mod FitsCore

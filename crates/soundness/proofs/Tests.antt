@@ -2,9 +2,13 @@
 use Prim.Native.Nat.{ℕ, zero, suc, _+_, _≤_, _<_}
 use mathlib.Core.Path.{_≡_, refl, sym, ap, _∙_, subst}
 use mathlib.Core.Bool.{Bool, true, false, _&&_}
-use lib.Dec.{T, eqb, leb, le→leb, eqb-refl}
-use Rattle.rules.specs.Lists.{within}
-use Rattle.packing.proofs.Reflect.{and}
+use mathlib.Core.List.{List}
+use native.Mathlib.Omega.{arith}
+use native.Mathlib.Nat.{add-zero}
+use lib.Dec.{T, eqb, leb, eqb→eq, leb→le, le→leb, eqb-refl}
+use Rattle.rules.specs.Lists.{within, bit}
+use Rattle.packing.proofs.Reflect.{both, and}
+use Rattle.soundness.specs.Twin.{word, zeros}
 
 -- a test that is true holds
 pub true-holds : (t : Bool) → t ≡ true → T t
@@ -30,3 +34,31 @@ all-three a b c x y z = and (a && b) c (and a b x y) z
 -- four tests
 pub all-four : (a b c d : Bool) → T a → T b → T c → T d → T (a && b && c && d)
 all-four a b c d x y z u = and (a && b && c) d (all-three a b c x y z) u
+
+-- a test with another that is true
+pub and-true : (a : Bool) → (a && true) ≡ a
+and-true true = refl
+and-true false = refl
+
+-- words that a test finds 0
+pub zeros-mean : (t : List ℕ) (a n : ℕ) → T (zeros t a n) → (i : ℕ) → i < n → word t (a + i) ≡ 0
+zeros-mean t a zero h i b = absurd (omega arith)
+zeros-mean t a (suc n) h zero b = rw add-zero (eqb→eq (word t a) 0 (both (eqb (word t a) 0) (zeros t (suc a) n) h .0))
+zeros-mean t a (suc n) h (suc i) b =
+    ap (word t) (omega arith) ∙ zeros-mean t (suc a) n (both (eqb (word t a) 0) (zeros t (suc a) n) h .1) i (omega arith)
+
+pub zeros-hold : (t : List ℕ) (a n : ℕ) → ((i : ℕ) → i < n → word t (a + i) ≡ 0) → T (zeros t a n)
+zeros-hold t a zero e = tt
+zeros-hold t a (suc n) e =
+    and (eqb (word t a) 0) (zeros t (suc a) n) (equal-holds (word t a) 0 (ap (word t) (sym (add-zero a)) ∙ e 0 (omega arith)))
+    (zeros-hold t (suc a) n (λ i b. ap (word t) (omega arith) ∙ e (suc i) (omega arith)))
+
+-- a number that is 0 or 1 is that of a test
+pub bit-means : (n : ℕ) → T (leb n 1) → bit (eqb n 1) ≡ n
+bit-means zero h = refl
+bit-means (suc zero) h = refl
+bit-means (suc (suc n)) h = absurd (omega (arith, leb→le (suc (suc n)) 1 h))
+
+pub bit-holds : (t : Bool) (n : ℕ) → bit t ≡ n → T (leb n 1)
+bit-holds true n e = le→leb n 1 (omega arith)
+bit-holds false n e = le→leb n 1 (omega arith)
