@@ -62,3 +62,8 @@ bit-means (suc (suc n)) h = absurd (omega (arith, leb→le (suc (suc n)) 1 h))
 pub bit-holds : (t : Bool) (n : ℕ) → bit t ≡ n → T (leb n 1)
 bit-holds true n e = le→leb n 1 (omega arith)
 bit-holds false n e = le→leb n 1 (omega arith)
+
+-- a test with another that may be put differently where the first holds
+pub and-as : (a b b′ : Bool) → (T a → b ≡ b′) → (a && b) ≡ (a && b′)
+and-as true b b′ e = e tt
+and-as false b b′ e = refl
