@@ -5,4 +5,4 @@ pub mod Views
 pub mod FitsChannel
 pub mod FitsCore
 pub mod Shapes
-pub mod FitsProcess
+pub mod FitsProgress

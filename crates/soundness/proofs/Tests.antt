@@ -7,7 +7,7 @@ use native.Mathlib.Omega.{arith}
 use native.Mathlib.Nat.{add-zero}
 use lib.Dec.{T, eqb, leb, eqb→eq, leb→le, le→leb, eqb-refl}
 use Rattle.rules.specs.Lists.{within, bit}
-use Rattle.packing.proofs.Reflect.{both, and}
+use Rattle.packing.proofs.Reflect.{both, five, and}
 use Rattle.soundness.specs.Twin.{word, zeros}
 
 -- a test that is true holds
@@ -67,3 +67,13 @@ bit-holds false n e = le→leb n 1 (omega arith)
 pub and-as : (a b b′ : Bool) → (T a → b ≡ b′) → (a && b) ≡ (a && b′)
 and-as true b b′ e = e tt
 and-as false b b′ e = refl
+
+-- five tests, six tests
+pub all-five : (a b c d e : Bool) → T a → T b → T c → T d → T e → T (a && b && c && d && e)
+all-five a b c d e x y z u v = and (a && b && c && d) e (all-four a b c d x y z u) v
+
+pub six : (a b c d e f : Bool) → T (a && b && c && d && e && f) → T a × T b × T c × T d × T e × T f
+six a b c d e f h = let t = both (a && b && c && d && e) f h in let u = five a b c d e (t .0) in (u .0, u .1, u .2, u .3, u .4, t .1)
+
+pub all-six : (a b c d e f : Bool) → T a → T b → T c → T d → T e → T f → T (a && b && c && d && e && f)
+all-six a b c d e f x y z u v w = and (a && b && c && d && e) f (all-five a b c d e x y z u v) w
