@@ -11,8 +11,9 @@ use lib.Dec.{T, eqb, leb, eqb→eq, leb→le, le→leb, eqb·suc-zero, leb·zero
 use lib.ListN.{length, getD, take}
 use borrow.Author.Tests.{leb-true, leb-false, le-leb}
 use Rattle.rules.specs.Lists.{if_then_else_, within, all, tabulate, member, distinct}
-use Rattle.rules.specs.State.{sending, receiving, Progress, nothing, Wiring, wiring}
+use Rattle.rules.specs.State.{Place, sending, receiving, Progress, nothing, Wiring, wiring}
 use Rattle.rules.specs.Packing.{
+  place-number,
   ready-number,
   padded,
   progress-words,
@@ -26,7 +27,7 @@ use Rattle.rules.specs.Packing.{
   view-process,
   view,
 }
-use Rattle.rules.specs.Soundness.{is-process, own-end, own-guards, in-list, ready-in-list, valid-progress}
+use Rattle.rules.specs.Soundness.{is-process, own-end, own-guards, in-list, ready-in-list, valid-progress, fits}
 use Rattle.packing.proofs.Reflect.{both, three, five, and, within-means}
 use Rattle.soundness.proofs.Tests.{equal-holds, all-three, all-five, six, all-six}
 use Rattle.soundness.proofs.Views.{length-tabulate, take-tabulate, tabulate-as, processes-of-view, end-place, own-end-is}
@@ -46,6 +47,7 @@ use Rattle.soundness.specs.Twin.{
   channel-part,
   guards-part,
   progress-fits,
+  place-fits,
 }
 
 -- Words that mean something only at some numbers
@@ -309,3 +311,16 @@ module _ (t : List ℕ) (p : ℕ) where
   progress-exact =
       (to (process-word t p 6) (process-word t p 7) (process-word t p 8) (process-word t p 9) (process-word t p 10) (process-word t p 11),
         back (process-word t p 6) (process-word t p 7) (process-word t p 8) (process-word t p 9) (process-word t p 10) (process-word t p 11))
+
+  -- A progress whose words fit goes with the places that its number goes with.
+  pub places-are : T (progress-fits t (K-of t) (N-of t) (M-of t) p) → (y : Place) → fits y x ≡ place-fits (place-number y) (process-word t p 6)
+  unfolding view-process
+  places-are h y =
+      let n = process-word t p 6 in
+      let c = process-word t p 7 in
+      let q = process-word t p 8 in
+      let g = process-word t p 9 in
+      let i = process-word t p 10 in
+      let r = process-word t p 11 in
+      let u = six (leb n 23) (channel-test n c q g i r) (partner-test n c q g i r) (guards-test n c q g i r) (index-test n c q g i r) (ready-test n c q g i r) h in
+      shape n c q g i r (leb→le n 23 (u .0)) .places y

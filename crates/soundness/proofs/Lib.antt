@@ -6,3 +6,4 @@ pub mod FitsChannel
 pub mod FitsCore
 pub mod Shapes
 pub mod FitsProgress
+pub mod FitsProcess
