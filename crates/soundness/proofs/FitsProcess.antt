@@ -77,3 +77,67 @@ module _ (t met : List ℕ) (p : ℕ) where
           and (leb (w 2) 1 && leb (w 3) 1 && leb (w 4) 1 && leb (w 5) 9 && place-fits (w 0) (w 6) && meeting) progress
           (all-six (leb (w 2) 1) (leb (w 3) 1) (leb (w 4) 1) (leb (w 5) 9) (place-fits (w 0) (w 6)) meeting
           (bit-holds (eqb (w 2) 1) (w 2) (cc)) (bit-holds (eqb (w 3) 1) (w 3) (cc)) (bit-holds (eqb (w 4) 1) (w 4) (cc)) (le→leb (w 5) 9 (h .0 .count)) good (h .1)) x
+
+-- Meeting
+
+-- who is in no queue has no links, and who heads no batch none of a batch's
+pub record NoLinks (t : List ℕ) (K p queues heads : ℕ) : Type 0 where
+  pub next : queues ≡ 0 → word t (process-at K p 20) ≡ 0
+  pub batch : heads ≡ 0 → (f : ℕ) → f < 3 → word t (process-at K p 21 + f) ≡ 0
+
+-- where a process stands, as a test of its place's number
+stands-asleep : (y : Place) → stands 0 0 y ≡ leb 3 (place-number y)
+stands-asleep running = refl
+stands-asleep queued = refl
+stands-asleep asleep = refl
+stands-asleep ended = refl
+
+stands-running : (y : Place) → stands 1 0 y ≡ eqb (place-number y) 1
+stands-running running = refl
+stands-running queued = refl
+stands-running asleep = refl
+stands-running ended = refl
+
+stands-queued : (y : Place) → stands 0 1 y ≡ eqb (place-number y) 2
+stands-queued running = refl
+stands-queued queued = refl
+stands-queued asleep = refl
+stands-queued ended = refl
+
+module _ (t : List ℕ) (K p : ℕ) where
+  -- who has no links at all
+  no-links : T (zeros t (process-at K p 20) 4) ↔ NoLinks t K p 0 0
+  no-links =
+      (λ h. let z = zeros-mean t (process-at K p 20) 4 h in
+        record { next = λ e. rw add-zero at (z 0 (omega arith)); batch = λ e f b. ap (word t) (omega arith) ∙ z (suc f) (omega arith) },
+        λ h. zeros-hold t (process-at K p 20) 4 (cases h))
+    where
+      cases : NoLinks t K p 0 0 → (i : ℕ) → i < 4 → word t (process-at K p 20 + i) ≡ 0
+      cases h zero b = rw add-zero (h .next refl)
+      cases h (suc i) b = ap (word t) (omega arith) ∙ h .batch refl i (omega arith)
+
+  -- who is in a queue and heads no batch
+  no-batch-links : T (zeros t (process-at K p 21) 3) ↔ NoLinks t K p 1 0
+  no-batch-links =
+      (λ h. record { next = λ e. absurd (omega arith); batch = λ e. zeros-mean t (process-at K p 21) 3 h },
+        λ h. zeros-hold t (process-at K p 21) 3 (h .batch refl))
+
+  -- a test and another that says the same as a fact
+  both-exact : (a a′ b : Bool) (C : Type 0) → a′ ≡ a → T b ↔ C → T (a && b) ↔ (T a′ × C)
+  both-exact a a′ b C e r =
+      (λ h. let u = both a b h in (rw e (u .0), r .0 (u .1)), λ h. and a b (subst T e (h .0)) (r .1 (h .1)))
+
+  -- What was met fits exactly where the process stands in its place and has no links that it should not have.
+  pub meeting-exact : (cores queues heads : ℕ) (y : Place) → cores + queues ≤ 1 → heads ≤ queues
+      → T (meeting-fits t K p (place-number y) (cores + 2 * queues + heads)) ↔ (T (stands cores queues y) × NoLinks t K p queues heads)
+  meeting-exact zero zero zero y b c = both-exact (leb 3 (place-number y)) (stands 0 0 y) _ _ (stands-asleep y) no-links
+  meeting-exact (suc zero) zero zero y b c = both-exact (eqb (place-number y) 1) (stands 1 0 y) _ _ (stands-running y) no-links
+  meeting-exact zero (suc zero) zero y b c = both-exact (eqb (place-number y) 2) (stands 0 1 y) _ _ (stands-queued y) no-batch-links
+  meeting-exact zero (suc zero) (suc zero) y b c =
+      (λ h. (rw stands-queued h, record { next = λ e. absurd (omega arith); batch = λ e. absurd (omega arith) }), λ h. rw stands-queued at (h .0))
+  meeting-exact zero zero (suc heads) y b c = absurd (omega arith)
+  meeting-exact zero (suc zero) (suc (suc heads)) y b c = absurd (omega arith)
+  meeting-exact zero (suc (suc queues)) heads y b c = absurd (omega arith)
+  meeting-exact (suc zero) zero (suc heads) y b c = absurd (omega arith)
+  meeting-exact (suc zero) (suc queues) heads y b c = absurd (omega arith)
+  meeting-exact (suc (suc cores)) queues heads y b c = absurd (omega arith)
