@@ -56,17 +56,18 @@ standing q c = runs-it q (c .work) + total (times q) (queues-of c)
 abbrev pub load : ℕ → Core → ℕ
 load q c = runs-it q (c .work) + 2 * total (times q) (queues-of c) + times q (heads (c .run-queue))
 
--- the first of a linked list is where the links begin
-pub linked-first : (link : ℕ → ℕ) (p : ℕ) (l : List ℕ) → Linked link p l → first l ≡ p
-linked-first link p [] h = sym h
-linked-first link p (x ∷ xs) h = sym (h .0)
+-- a chain begins where it is begun
+pub chain-first : (link : ℕ → ℕ) (n p : ℕ) → 1 ≤ n → first (chain link n p) ≡ p
+chain-first link zero p b = absurd (omega arith)
+chain-first link (suc n) zero b = refl
+chain-first link (suc n) (suc p) b = refl
 
 -- the heads of lists that begin with these numbers
-pub heads-back : (f : ℕ → List ℕ) (l : List ℕ) → ((h : ℕ) → 1 ≤ times h l → first (f h) ≡ h) → heads (map f l) ≡ l
+heads-back : (f : ℕ → List ℕ) (l : List ℕ) → ((h : ℕ) → first (f h) ≡ h) → heads (map f l) ≡ l
 heads-back f [] e = refl
 heads-back f (x ∷ xs) e =
-    let here : first (f x) ≡ x = e x (omega (arith, head-stands x xs)) in
-    let behind : heads (map f xs) ≡ xs = heads-back f xs (λ h b. e h (omega arith)) in
+    let here : first (f x) ≡ x = e x in
+    let behind : heads (map f xs) ≡ xs = heads-back f xs e in
     cc
 
 -- numbers that stand in their lists stand in all of these at least as often as among themselves
@@ -110,28 +111,26 @@ module _ (t : List ℕ) where
     pub batches : Heads t (K-of t) (N-of t) (core-word t k 9) (core-word t k 8) 0 (heads-of k)
 
   -- the heads of the batches that are read out of the table
-  pub heads-are : (k : ℕ) → CoreFits k → heads (view-core t k .run-queue) ≡ heads-of k
+  pub heads-are : 1 ≤ N-of t → (k : ℕ) → heads (view-core t k .run-queue) ≡ heads-of k
   unfolding view-core
-  heads-are k h =
-      let link = next-of t (K-of t) (N-of t) in
-      let batch = batch-of t (K-of t) (N-of t) in
-      heads-back batch (heads-of k) (λ x b. linked-first link x (batch x) (h .batches .each x b .queue .linked))
+  heads-are some k =
+      heads-back (batch-of t (K-of t) (N-of t)) (heads-of k) (λ h. chain-first (next-of t (K-of t) (N-of t)) (N-of t) h some)
 
   -- a head stands in its batch
-  pub heads-stand : (k : ℕ) → CoreFits k → (q : ℕ) → times q (heads (view-core t k .run-queue)) ≤ total (times q) (view-core t k .run-queue)
+  pub heads-stand : 1 ≤ N-of t → (k : ℕ) → CoreFits k → (q : ℕ) → times q (heads (view-core t k .run-queue)) ≤ total (times q) (view-core t k .run-queue)
   unfolding view-core
-  heads-stand k h q =
+  heads-stand some k h q =
       let link = next-of t (K-of t) (N-of t) in
       let batch = batch-of t (K-of t) (N-of t) in
       let e = h .batches .each in
-      omega (arith, ap (times q) (heads-are k h),
+      omega (arith, ap (times q) (heads-are some k),
         members-stand batch q (heads-of k) (λ x b. first-stands link x (batch x) (e x b .queue .linked) (e x b .low) q))
 
   -- A core is found exactly.
-  core-exact : (k : ℕ) (c : ℕ → ℕ) (met : List ℕ) → Met (N-of t) c met
+  core-exact : 1 ≤ N-of t → (k : ℕ) (c : ℕ → ℕ) (met : List ℕ) → Met (N-of t) c met
       → Exact (CoreFits k × Apart (N-of t) c (λ q. standing q (view-core t k))) (Met (N-of t) (λ q. c q + load q (view-core t k))) (core-walk t (K-of t) (N-of t) k met)
   unfolding view-core
-  core-exact k c met agrees =
+  core-exact some k c met agrees =
       exact-if P Q (core-fits t N k) walk (λ h. h .0 .flat)
       (λ f. exact-then P Q (Apart N c running) (Met N c₁) (meet-running t N k met) after-running
         (running-exact N c met agrees (core-word t k 0) (core-word t k 1) (core-word t k 2)) (λ h. apart-first N c running c₁ queues (h .1))
@@ -142,7 +141,7 @@ module _ (t : List ℕ) where
             (λ h. (record { flat = f; active = h₂ .0; batches = h .0 },
               apart-both N c running c₁ queues grown₁ a₁ (apart-both N c₁ active c₂ batches grown₂ (h₂ .1) (h .1))))
             (λ h. (h .0 .batches, apart-second N c₁ active c₂ batches grown₂ (apart-second N c running c₁ queues grown₁ (h .1))))
-            (λ m h. met-as N _ _ m (λ q. omega (arith, ap (times q) (heads-are k (h .0))))) (batch-exact t K N k N m₂ c₂ (core-word t k 8) 0 g₂))))
+            (λ m h. met-as N _ _ m (λ q. omega (arith, ap (times q) (heads-are some k)))) (batch-exact t K N k N m₂ c₂ (core-word t k 8) 0 g₂))))
     where
       K : ℕ
       K = K-of t
@@ -204,19 +203,19 @@ module _ (t : List ℕ) where
       grown₂ q = (λ z. omega arith, λ z. omega arith)
 
   -- All cores are found exactly: k, k + 1, .. (n of them).
-  pub cores-exact : (n k : ℕ) (c : ℕ → ℕ) (met : List ℕ) → Met (N-of t) c met
+  pub cores-exact : 1 ≤ N-of t → (n k : ℕ) (c : ℕ → ℕ) (met : List ℕ) → Met (N-of t) c met
       → Exact (((j : ℕ) → k ≤ j → j < k + n → CoreFits j) × Apart (N-of t) c (λ q. total (standing q) (tabulate (view-core t) k n)))
       (Met (N-of t) (λ q. c q + total (load q) (tabulate (view-core t) k n))) (cores-walk t (K-of t) (N-of t) k n met)
-  cores-exact zero k c met agrees =
+  cores-exact some zero k c met agrees =
       ((λ j l b. absurd (omega arith), λ q b. absurd (omega arith)), met-as (N-of t) c _ met (λ q. omega arith) agrees)
-  cores-exact (suc n) k c met agrees =
+  cores-exact some (suc n) k c met agrees =
       exact-then P Q (CoreFits k × Apart N c here) (Met N c′) (core-walk t (K-of t) N k met) (λ m. cores-walk t (K-of t) N (suc k) n m)
-      (core-exact k c met agrees) (λ h. (h .0 k (omega arith) (omega arith), apart-first N c here c′ behind (h .1)))
+      (core-exact some k c met agrees) (λ h. (h .0 k (omega arith) (omega arith), apart-first N c here c′ behind (h .1)))
       (λ m h g. exact-as P Q P′ Q′ (cores-walk t (K-of t) N (suc k) n m)
         (λ h′. (each-from (CoreFits) k n (h .0) (h′ .0), apart-both N c here c′ behind (grown (h .0)) (h .1) (h′ .1)))
         (λ h′. (λ j l b. h′ .0 j (omega arith) (omega arith), apart-second N c here c′ behind (grown (h .0)) (h′ .1)))
         (λ m′ h′. met-as N _ _ m′ (λ q. omega arith))
-        (cores-exact n (suc k) c′ m g))
+        (cores-exact some n (suc k) c′ m g))
     where
       N : ℕ
       N = N-of t
@@ -243,4 +242,4 @@ module _ (t : List ℕ) where
       Q′ = Met N (λ q. c′ q + total (load q) (tabulate (view-core t) (suc k) n))
 
       grown : CoreFits k → Grown c here c′
-      grown h q = (λ z. omega arith, λ z. omega (arith, heads-stand k h q))
+      grown h q = (λ z. omega arith, λ z. omega (arith, heads-stand some k h q))

@@ -7,3 +7,4 @@ pub mod FitsCore
 pub mod Shapes
 pub mod FitsProgress
 pub mod FitsProcess
+pub mod Fitting

@@ -2,12 +2,14 @@
 use Prim.Native.Nat.{ℕ, zero, suc, _+_, _≤_, _<_}
 use mathlib.Core.Path.{_≡_, refl, sym, ap, _∙_, subst}
 use mathlib.Core.Bool.{Bool, true, false, _&&_}
-use mathlib.Core.List.{List}
+use mathlib.Core.List.{List, [], _∷_}
 use native.Mathlib.Omega.{arith}
 use native.Mathlib.Nat.{add-zero}
 use lib.Dec.{T, eqb, leb, eqb→eq, leb→le, le→leb, eqb-refl}
-use Rattle.rules.specs.Lists.{within, bit}
+use lib.ListN.{length, getD}
+use Rattle.rules.specs.Lists.{within, all, from, bit, times}
 use Rattle.packing.proofs.Reflect.{both, five, and}
+use Rattle.packing.proofs.Sums.{head-stands}
 use Rattle.soundness.specs.Twin.{word, zeros}
 
 -- a test that is true holds
@@ -77,3 +79,18 @@ six a b c d e f h = let t = both (a && b && c && d && e) f h in let u = five a b
 
 pub all-six : (a b c d e f : Bool) → T a → T b → T c → T d → T e → T f → T (a && b && c && d && e && f)
 all-six a b c d e f x y z u v w = and (a && b && c && d && e) f (all-five a b c d e x y z u v) w
+
+-- a test that holds of a, a + 1, .. (n of them)
+pub from-holds : (f : ℕ → Bool) (a n : ℕ) → ((i : ℕ) → a ≤ i → i < a + n → T (f i)) → T (all f (from a n))
+from-holds f a zero h = tt
+from-holds f a (suc n) h = and (f a) (all f (from (suc a) n)) (h a (omega arith) (omega arith)) (from-holds f (suc a) n (λ i l b. h i (omega arith) (omega arith)))
+
+-- a test that holds of each member of a list
+pub all-holds : {A : Type 0} (f : A → Bool) (l : List A) (d : A) → ((i : ℕ) → i < length l → T (f (getD l i d))) → T (all f l)
+all-holds f [] d h = tt
+all-holds f (x ∷ xs) d h = and (f x) (all f xs) (h 0 (omega arith)) (all-holds f xs d (λ i b. h (suc i) (omega arith)))
+
+-- the same for numbers that stand in a list
+pub times-holds : (f : ℕ → Bool) (l : List ℕ) → ((p : ℕ) → 1 ≤ times p l → T (f p)) → T (all f l)
+times-holds f [] h = tt
+times-holds f (x ∷ xs) h = and (f x) (all f xs) (h x (omega (arith, head-stands x xs))) (times-holds f xs (λ p b. h p (omega arith)))
