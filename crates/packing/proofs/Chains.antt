@@ -23,7 +23,7 @@ follows-head : (x : ℕ) (xs : List ℕ) → follows x (x ∷ xs) ≡ first xs
 follows-head x xs = ap (λ (t : Bool). if t then first xs else follows x xs) (eq-eqb x x refl)
 
 -- nothing follows a number that doesn't stand in the list
-follows-none : (p : ℕ) (l : List ℕ) → times p l ≡ 0 → follows p l ≡ 0
+pub follows-none : (p : ℕ) (l : List ℕ) → times p l ≡ 0 → follows p l ≡ 0
 follows-none p [] e = refl
 follows-none p (x ∷ xs) e = cases (eqb x p) refl (follows-none p xs)
   where
@@ -63,7 +63,7 @@ chain-back n link l a e = chain-to n n link l a (among-length n l a) e
 -- The queues of a state
 
 -- a process that is in its place stands in the queues at most once
-stands-once : (cores queues : ℕ) (x : Place) → T (stands cores queues x) → queues ≤ 1
+pub stands-once : (cores queues : ℕ) (x : Place) → T (stands cores queues x) → queues ≤ 1
 stands-once cores queues running h = omega (arith, eqb→eq queues 0 (both (eqb cores 1) (eqb queues 0) h .1))
 stands-once cores queues queued h = omega (arith, eqb→eq queues 1 (both (eqb cores 0) (eqb queues 1) h .1))
 stands-once cores queues asleep h = omega (arith, eqb→eq queues 0 (both (eqb cores 0) (eqb queues 0) h .1))
@@ -80,7 +80,7 @@ head-in-batch p (x ∷ xs) h = omega arith
 
 module _ (s : State) (v : Valid s) where
   -- what stands in a queue is a process
-  queued-range : (p : ℕ) → 1 ≤ in-queues s p → (1 ≤ p) × (p ≤ length (s .processes))
+  pub queued-range : (p : ℕ) → 1 ≤ in-queues s p → (1 ≤ p) × (p ≤ length (s .processes))
   unfolding in-queues
   queued-range p h =
       let c = positive-term (λ (c : Core). total (times p) (queues-of c)) (s .cores) no-core h in
@@ -88,7 +88,7 @@ module _ (s : State) (v : Valid s) where
       v .cores (c .0) (c .1) .members (q .0) (q .1) p (q .2)
 
   -- no number stands in the queues twice
-  queued-once : (p : ℕ) → in-queues s p ≤ 1
+  pub queued-once : (p : ℕ) → in-queues s p ≤ 1
   queued-once p = cases (leb 1 (in-queues s p)) refl
     where
       cases : (t : Bool) → leb 1 (in-queues s p) ≡ t → in-queues s p ≤ 1

@@ -8,3 +8,4 @@ pub mod Shapes
 pub mod FitsProgress
 pub mod FitsProcess
 pub mod Fitting
+pub mod Links
