@@ -9,3 +9,4 @@ pub mod FitsProgress
 pub mod FitsProcess
 pub mod Fitting
 pub mod Links
+pub mod FitsValid
