@@ -10,3 +10,4 @@ pub mod FitsProcess
 pub mod Fitting
 pub mod Links
 pub mod FitsValid
+pub mod FitsHolds

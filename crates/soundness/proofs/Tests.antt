@@ -94,3 +94,8 @@ all-holds f (x ∷ xs) d h = and (f x) (all f xs) (h 0 (omega arith)) (all-holds
 pub times-holds : (f : ℕ → Bool) (l : List ℕ) → ((p : ℕ) → 1 ≤ times p l → T (f p)) → T (all f l)
 times-holds f [] h = tt
 times-holds f (x ∷ xs) h = and (f x) (all f xs) (h x (omega (arith, head-stands x xs))) (times-holds f xs (λ p b. h p (omega arith)))
+
+-- a test whose number is not 0 holds
+pub bit-positive : (t : Bool) → 1 ≤ bit t → T t
+bit-positive true b = tt
+bit-positive false b = absurd (omega arith)
