@@ -63,7 +63,7 @@ chain-back n link l a e = chain-to n n link l a (among-length n l a) e
 -- The queues of a state
 
 -- a process that is in its place stands in the queues at most once
-pub stands-once : (cores queues : ℕ) (x : Place) → T (stands cores queues x) → queues ≤ 1
+stands-once : (cores queues : ℕ) (x : Place) → T (stands cores queues x) → queues ≤ 1
 stands-once cores queues running h = omega (arith, eqb→eq queues 0 (both (eqb cores 1) (eqb queues 0) h .1))
 stands-once cores queues queued h = omega (arith, eqb→eq queues 1 (both (eqb cores 0) (eqb queues 1) h .1))
 stands-once cores queues asleep h = omega (arith, eqb→eq queues 0 (both (eqb cores 0) (eqb queues 0) h .1))
@@ -88,7 +88,7 @@ module _ (s : State) (v : Valid s) where
       v .cores (c .0) (c .1) .members (q .0) (q .1) p (q .2)
 
   -- no number stands in the queues twice
-  pub queued-once : (p : ℕ) → in-queues s p ≤ 1
+  queued-once : (p : ℕ) → in-queues s p ≤ 1
   queued-once p = cases (leb 1 (in-queues s p)) refl
     where
       cases : (t : Bool) → leb 1 (in-queues s p) ≡ t → in-queues s p ≤ 1

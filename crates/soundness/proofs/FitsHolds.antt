@@ -45,7 +45,6 @@ use Rattle.packing.proofs.Sums.{positive-term, total-map}
 use Rattle.packing.proofs.Chains.{next-follows, batch-follows}
 use Rattle.packing.proofs.Reading.{state-words, link-words}
 use Rattle.packing.proofs.ViewCore.{queue-words}
-use Rattle.soundness.proofs.Tests.{bit-positive}
 use Rattle.soundness.proofs.Walks.{next-of, batch-of, batch-behind, Batch}
 use Rattle.soundness.proofs.CoreWalks.{CoreFits, chain-first, heads-of, heads-are}
 use Rattle.soundness.proofs.Views.{tabulate-at, cores-of-view, processes-of-view, channels-of-view, core-of-view, process-of-view, channel-of-view}
@@ -53,7 +52,7 @@ use Rattle.soundness.proofs.FitsChannel.{channel-words-back}
 use Rattle.soundness.proofs.FitsCore.{FlatCore}
 use Rattle.soundness.proofs.FitsProcess.{FlatProcess, NoLinks}
 use Rattle.soundness.proofs.Fitting.{HeaderFits, header-processes, Fitting}
-use Rattle.soundness.proofs.Links.{linked-follows, last-from-zero, heads-in, no-next, no-head-link, no-batch-link, head-keeps}
+use Rattle.soundness.proofs.Links.{linked-follows, last-from-zero, heads-in, no-next, no-head-link, no-batch-link, head-found, head-keeps}
 use Rattle.soundness.proofs.FitsValid.{batch-is, batch-fits, heads-below, standing-once, flat-core, stands-linked, fits-valid}
 use Rattle.soundness.specs.Twin.{word}
 
@@ -82,7 +81,7 @@ module _ (t : List ℕ) (words : (i : ℕ) → getD t i 0 < 4294967296) (h : Fit
       linked-follows (next-of t (K-of t) (N-of t)) (core-word t k 3) (view-core t k .active) (h .cores k b .active .linked) p m
   queue-follows k b (suc i) c p m =
       let l = getD (view-core t k .run-queue) i [] in
-      let e : l ≡ batch-of t (K-of t) (N-of t) (first l) = batch-is t some (h .cores) k i (omega arith) in
+      let e : l ≡ batch-of t (K-of t) (N-of t) (first l) = batch-is t some k i (omega arith) in
       let x = batch-fits t some (h .cores) k i b (omega arith) in
       ap (follows p) e
       ∙ linked-follows (next-of t (K-of t) (N-of t)) (first l) (batch-of t (K-of t) (N-of t) (first l)) (x .queue .linked) p (omega (arith, ap (times p) e))
@@ -120,15 +119,14 @@ module _ (t : List ℕ) (words : (i : ℕ) → getD t i 0 < 4294967296) (h : Fit
         let d = inside k (c .1) in
         let core : core-of s k ≡ view-core t k = core-of-view t k d in
         let batches = core-of s k .run-queue in
-        let q = positive-term (λ x. bit (eqb (first x) p)) batches [] (omega (arith, c .2, total-map (λ x. bit (eqb x p)) first batches)) in
+        let q = head-found batches p (c .2) in
         let i = q .0 in
-        let head : first (getD batches i []) ≡ p = eqb→eq (first (getD batches i [])) p (bit-positive (eqb (first (getD batches i [])) p) (q .2)) in
         let one : heads-in s p ≤ 1 = omega (arith, heads-below t some (h .cores) p, standing-once t words h p) in
         let batch : getD batches i [] ≡ batch-of t (K-of t) (N-of t) p =
           subst (λ (x : Core). i < length (x .run-queue) → first (getD (x .run-queue) i []) ≡ p → getD (x .run-queue) i [] ≡ batch-of t (K-of t) (N-of t) p)
-          (sym core) (λ j e. batch-is t some (h .cores) k i j ∙ ap (batch-of t (K-of t) (N-of t)) e) (q .1) head in
+          (sym core) (λ j e. batch-is t some k i j ∙ ap (batch-of t (K-of t) (N-of t)) e) (q .1) (q .2) in
         let keeps : (f : List ℕ → ℕ) → head-link f s p ≡ f (batch-of t (K-of t) (N-of t) p) =
-          λ f. head-keeps s p f one k (c .1) i (q .1) head ∙ ap f batch in
+          λ f. head-keeps s p f one k (c .1) i (q .1) (q .2) ∙ ap f batch in
         let all-heads : heads batches ≡ heads-of t k = ap (λ (x : Core). heads (x .run-queue)) core ∙ heads-are t some k in
         let stands : 1 ≤ times p (heads-of t k) = omega (arith, c .2, ap (times p) all-heads) in
         let x = h .cores k d .batches in

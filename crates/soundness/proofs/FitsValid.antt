@@ -57,17 +57,17 @@ first-among l i b =
     let h = first (getD l i []) in
     omega (arith, total-map (λ x. bit (eqb x h)) first l, term-le-total (λ x. bit (eqb (first x) h)) l [] i b, ap bit (eq-eqb h h refl))
 
+-- a batch of the run queue is that of its head
+pub batch-is : (t : List ℕ) → 1 ≤ N-of t → (k i : ℕ) → i < length (view-core t k .run-queue)
+    → getD (view-core t k .run-queue) i [] ≡ batch-of t (K-of t) (N-of t) (first (getD (view-core t k .run-queue) i []))
+unfolding view-core
+batch-is t some k i b = member-back (batch-of t (K-of t) (N-of t)) (λ h. chain-first (next-of t (K-of t) (N-of t)) (N-of t) h some) (heads-of t k) i b
+
 module _ (t : List ℕ) (some : 1 ≤ N-of t) (cores : (k : ℕ) → k < K-of t → CoreFits t k) where
   abbrev s : State
   s = view t
 
-  -- a batch of the run queue is that of its head
-  pub batch-is : (k i : ℕ) → i < length (view-core t k .run-queue)
-      → getD (view-core t k .run-queue) i [] ≡ batch-of t (K-of t) (N-of t) (first (getD (view-core t k .run-queue) i []))
-  unfolding view-core
-  batch-is k i b = member-back (batch-of t (K-of t) (N-of t)) (λ h. chain-first (next-of t (K-of t) (N-of t)) (N-of t) h some) (heads-of t k) i b
-
-  -- and its head is one
+  -- the head of a batch of the run queue is one
   pub batch-fits : (k i : ℕ) → k < K-of t → i < length (view-core t k .run-queue)
       → Batch t (K-of t) (N-of t) (first (getD (view-core t k .run-queue) i []))
   batch-fits k i b c =
@@ -130,7 +130,7 @@ module _ (t : List ℕ) (words : (i : ℕ) → getD t i 0 < 4294967296) (h : Fit
       all-four (valid-work w (c .work)) (leb (c .dispatch) 32) (all not-empty (c .run-queue)) (all (all (is-process w)) (queues-of c))
       (f .work .0) (le→leb (c .dispatch) 32 (f .dispatch))
       (all-holds not-empty (c .run-queue) [] (λ i e. let x = batch-fits t some (h .cores) k i b e in
-        subst (λ (l : List ℕ). T (not-empty l)) (sym (batch-is t some (h .cores) k i e))
+        subst (λ (l : List ℕ). T (not-empty l)) (sym (batch-is t some k i e))
         (linked-some (next-of t (K-of t) (N-of t)) _ (batch-of t (K-of t) (N-of t) _) (x .queue .linked) (x .low))))
       (all-holds (all (is-process w)) (queues-of c) [] (λ i e. times-holds (is-process w) (getD (queues-of c) i []) (λ q m. process-here q (in-queue k b i e q m))))
 

@@ -11,3 +11,5 @@ pub mod Fitting
 pub mod Links
 pub mod FitsValid
 pub mod FitsHolds
+pub mod SoundFits
+pub mod FitsIsSound

@@ -5,7 +5,7 @@ use mathlib.Core.Path.{_≡_, refl, sym, ap, _∙_, subst}
 use mathlib.Core.Bool.{Bool, true, false}
 use mathlib.Core.List.{List, [], _∷_, map}
 use native.Mathlib.Omega.{arith}
-use lib.Dec.{eqb}
+use lib.Dec.{eqb, eqb→eq}
 use lib.ListN.{length, getD}
 use borrow.Author.Tests.{eqb-true, eqb-false, eq-eqb, ne-eqb}
 use Rattle.rules.specs.Lists.{if_then_else_, total, bit, times, first, last, follows}
@@ -15,6 +15,7 @@ use Rattle.rules.specs.Packing.{heads, next-link, if-head, head-link, batch-lin
 use Rattle.rules.specs.Soundness.{runs-it, on-cores, in-queues}
 use Rattle.packing.proofs.Sums.{term-le-total, positive-term, total-add, total-zero, total-only, total-map, Among, among-length, head-stands}
 use Rattle.packing.proofs.Chains.{chain-back, follows-none}
+use Rattle.soundness.proofs.Tests.{bit-positive}
 use Rattle.soundness.proofs.Walks.{Linked, last-from}
 use Rattle.soundness.proofs.CoreWalks.{standing, load}
 
@@ -57,6 +58,13 @@ last-from-zero (x ∷ xs) = behind x xs
     behind x (y ∷ ys) = behind y ys
 
 -- Sums
+
+-- who is one of the heads is the first of a batch
+pub head-found : (l : List (List ℕ)) (p : ℕ) → 1 ≤ times p (heads l) → (i : ℕ) × (i < length l) × (first (getD l i []) ≡ p)
+head-found l p b =
+    let r = positive-term (λ x. bit (eqb (first x) p)) l [] (omega (arith, total-map (λ x. bit (eqb x p)) first l)) in
+    let x = first (getD l (r .0) []) in
+    (r .0, r .1, eqb→eq x p (bit-positive (eqb x p) (r .2)))
 
 -- how many batches a process heads
 unfoldable pub heads-in : State → ℕ → ℕ
