@@ -88,7 +88,7 @@ module _ (s : State) (v : Valid s) where
       v .cores (c .0) (c .1) .members (q .0) (q .1) p (q .2)
 
   -- no number stands in the queues twice
-  queued-once : (p : ℕ) → in-queues s p ≤ 1
+  pub queued-once : (p : ℕ) → in-queues s p ≤ 1
   queued-once p = cases (leb 1 (in-queues s p)) refl
     where
       cases : (t : Bool) → leb 1 (in-queues s p) ≡ t → in-queues s p ≤ 1
@@ -122,7 +122,7 @@ module _ (s : State) (v : Valid s) where
         ∙ total-only (times p) (follows p) (follows-none p) l (omega (arith, in-core p, queued-once p)) [] i c h
 
     -- a head stands in the queues of its core
-    heads-in-core : (p : ℕ) → times p (heads (core-of s k .run-queue)) ≤ total (times p) (queues-of (core-of s k))
+    pub heads-in-core : (p : ℕ) → times p (heads (core-of s k .run-queue)) ≤ total (times p) (queues-of (core-of s k))
     heads-in-core p =
         let l = core-of s k .run-queue in
         omega (arith, total-map (λ x. bit (eqb x p)) first l,

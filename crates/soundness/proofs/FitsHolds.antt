@@ -53,7 +53,7 @@ use Rattle.soundness.proofs.FitsCore.{FlatCore}
 use Rattle.soundness.proofs.FitsProcess.{FlatProcess, NoLinks}
 use Rattle.soundness.proofs.Fitting.{HeaderFits, header-processes, Fitting}
 use Rattle.soundness.proofs.Links.{linked-follows, last-from-zero, heads-in, no-next, no-head-link, no-batch-link, head-found, head-keeps}
-use Rattle.soundness.proofs.FitsValid.{batch-is, batch-fits, heads-below, standing-once, flat-core, stands-linked, fits-valid}
+use Rattle.soundness.proofs.FitsValid.{batch-is, batch-from, batch-fits, heads-below, standing-once, flat-core, stands-linked, fits-valid}
 use Rattle.soundness.specs.Twin.{word}
 
 -- a word of a block whose words are these
@@ -122,9 +122,7 @@ module _ (t : List ℕ) (words : (i : ℕ) → getD t i 0 < 4294967296) (h : Fit
         let q = head-found batches p (c .2) in
         let i = q .0 in
         let one : heads-in s p ≤ 1 = omega (arith, heads-below t some (h .cores) p, standing-once t words h p) in
-        let batch : getD batches i [] ≡ batch-of t (K-of t) (N-of t) p =
-          subst (λ (x : Core). i < length (x .run-queue) → first (getD (x .run-queue) i []) ≡ p → getD (x .run-queue) i [] ≡ batch-of t (K-of t) (N-of t) p)
-          (sym core) (λ j e. batch-is t some k i j ∙ ap (batch-of t (K-of t) (N-of t)) e) (q .1) (q .2) in
+        let batch : getD batches i [] ≡ batch-of t (K-of t) (N-of t) p = batch-from t some k d i (q .1) p (q .2) in
         let keeps : (f : List ℕ → ℕ) → head-link f s p ≡ f (batch-of t (K-of t) (N-of t) p) =
           λ f. head-keeps s p f one k (c .1) i (q .1) (q .2) ∙ ap f batch in
         let all-heads : heads batches ≡ heads-of t k = ap (λ (x : Core). heads (x .run-queue)) core ∙ heads-are t some k in

@@ -36,7 +36,7 @@ use Rattle.soundness.proofs.Views.{cores-of-view, processes-of-view, ch
 use Rattle.soundness.proofs.FitsCore.{FlatCore, core-fits-means}
 use Rattle.soundness.proofs.FitsProcess.{FlatProcess, NoLinks, meeting-exact}
 use Rattle.soundness.proofs.Fitting.{HeaderFits, header-processes, Fitting}
-use Rattle.soundness.proofs.Links.{heads-in, standing-is, load-is}
+use Rattle.soundness.proofs.Links.{heads-in, heads-le, standing-is, load-is}
 use Rattle.soundness.specs.Twin.{meeting-fits}
 
 -- a linked list that begins with a process is not empty
@@ -63,10 +63,14 @@ pub batch-is : (t : List ℕ) → 1 ≤ N-of t → (k i : ℕ) → i < length (v
 unfolding view-core
 batch-is t some k i b = member-back (batch-of t (K-of t) (N-of t)) (λ h. chain-first (next-of t (K-of t) (N-of t)) (N-of t) h some) (heads-of t k) i b
 
-module _ (t : List ℕ) (some : 1 ≤ N-of t) (cores : (k : ℕ) → k < K-of t → CoreFits t k) where
-  abbrev s : State
-  s = view t
+-- so the batch that a process heads is read out from that process on
+pub batch-from : (t : List ℕ) → 1 ≤ N-of t → (k : ℕ) → k < K-of t → (i : ℕ) → i < length (core-of (view t) k .run-queue) → (p : ℕ)
+    → first (getD (core-of (view t) k .run-queue) i []) ≡ p → getD (core-of (view t) k .run-queue) i [] ≡ batch-of t (K-of t) (N-of t) p
+batch-from t some k b i c p e =
+    subst (λ (x : Core). i < length (x .run-queue) → first (getD (x .run-queue) i []) ≡ p → getD (x .run-queue) i [] ≡ batch-of t (K-of t) (N-of t) p)
+    (sym (core-of-view t k b)) (λ d f. batch-is t some k i d ∙ ap (batch-of t (K-of t) (N-of t)) f) c e
 
+module _ (t : List ℕ) (some : 1 ≤ N-of t) (cores : (k : ℕ) → k < K-of t → CoreFits t k) where
   -- the head of a batch of the run queue is one
   pub batch-fits : (k i : ℕ) → k < K-of t → i < length (view-core t k .run-queue)
       → Batch t (K-of t) (N-of t) (first (getD (view-core t k .run-queue) i []))
@@ -76,11 +80,9 @@ module _ (t : List ℕ) (some : 1 ≤ N-of t) (cores : (k : ℕ) → k < K-of t 
       cores k b .batches .each h (omega (arith, first-among l i c, ap (times h) (heads-are t some k)))
 
   -- no process heads more batches than it stands in queues
-  pub heads-below : (q : ℕ) → heads-in s q ≤ in-queues s q
-  unfolding heads-in in-queues
+  pub heads-below : (q : ℕ) → heads-in (view t) q ≤ in-queues (view t) q
   heads-below q =
-      total-le (λ (c : Core). times q (heads (c .run-queue))) (λ (c : Core). total (times q) (queues-of c)) no-core (s .cores)
-      (λ k b. let c : k < K-of t = subst (λ (n : ℕ). k < n) (cores-of-view t) b in
+      heads-le (view t) q (λ k b. let c : k < K-of t = subst (λ (n : ℕ). k < n) (cores-of-view t) b in
         rw (core-of-view t k c) (omega (arith, heads-stand t some k (cores k c) q)))
 
 module _ (t : List ℕ) (words : (i : ℕ) → getD t i 0 < 4294967296) (h : Fitting t) where

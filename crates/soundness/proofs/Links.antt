@@ -13,7 +13,7 @@ use Rattle.rules.specs.State.{Core, queues-of, State}
 use Rattle.rules.specs.Items.{core-of, no-core}
 use Rattle.rules.specs.Packing.{heads, next-link, if-head, head-link, batch-link, chain}
 use Rattle.rules.specs.Soundness.{runs-it, on-cores, in-queues}
-use Rattle.packing.proofs.Sums.{term-le-total, positive-term, total-add, total-zero, total-only, total-map, Among, among-length, head-stands}
+use Rattle.packing.proofs.Sums.{total-le, term-le-total, positive-term, total-add, total-zero, total-only, total-map, Among, among-length, head-stands}
 use Rattle.packing.proofs.Chains.{chain-back, follows-none}
 use Rattle.soundness.proofs.Tests.{bit-positive}
 use Rattle.soundness.proofs.Walks.{Linked, last-from}
@@ -86,6 +86,12 @@ module _ (s : State) (p : ℕ) where
           + total (λ (c : Core). times p (heads (c .run-queue))) l
       each [] = refl
       each (c ∷ cs) = omega (arith, each cs)
+
+  -- where no process heads more batches of a core than it stands in its queues, it heads no more than it stands in all queues
+  pub heads-le : ((k : ℕ) → k < length (s .cores) → times p (heads (core-of s k .run-queue)) ≤ total (times p) (queues-of (core-of s k)))
+      → heads-in s p ≤ in-queues s p
+  unfolding heads-in in-queues
+  heads-le = total-le (λ (c : Core). times p (heads (c .run-queue))) (λ (c : Core). total (times p) (queues-of c)) no-core (s .cores)
 
   -- who is in no queue is linked to nobody
   pub no-next : in-queues s p ≡ 0 → next-link s p ≡ 0
