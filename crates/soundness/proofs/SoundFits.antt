@@ -35,7 +35,7 @@ use Rattle.rules.specs.Packing.{
   view-channel,
   view,
 }
-use Rattle.rules.specs.Soundness.{is-process, runs-it, on-cores, in-queues, stands, valid-process, valid-work, valid-core, valid-channel, valid}
+use Rattle.rules.specs.Soundness.{runs-it, valid-progress, fits, on-cores, in-queues, stands, valid-process, valid-work, valid-core, valid-channel, valid}
 use Rattle.packing.proofs.Blocks.{length-work-words, length-progress-words, second-part, pack-holds}
 use Rattle.packing.proofs.Reflect.{both, four, within-means, all-at, Valid, valid-means}
 use Rattle.packing.proofs.Sums.{Among, positive-term}
@@ -80,9 +80,17 @@ module _ (t : List ℕ) (good : T (valid (view t))) (packed : pack (view t) ≡ 
   v : Valid s
   v = valid-means s good
 
+  -- the four tests of a valid state
+  parts : T (sizes (w .K) (w .N) (length (s .channels))) × T (all (valid-core w) (s .cores)) × T (all (valid-process s) (from 1 (w .N)))
+      × T (all (valid-channel w) (s .channels))
+  unfolding valid
+  parts =
+      four (sizes (w .K) (w .N) (length (s .channels))) (all (valid-core w) (s .cores)) (all (valid-process s) (from 1 (w .N)))
+      (all (valid-channel w) (s .channels)) good
+
   -- the header
   header-fits : HeaderFits t
-  unfolding valid header-words
+  unfolding header-words
   header-fits =
       record {
         sizes = rw (cores-of-view, processes-of-view, channels-of-view) at (parts .0);
@@ -91,12 +99,6 @@ module _ (t : List ℕ) (good : T (valid (view t))) (packed : pack (view t) ≡ 
           subst (λ (u : List ℕ). word u (3 + i) ≡ getD (header-words s) (3 + i) 0) packed (pack-holds s .header (3 + i) (omega arith))
           ∙ second-part (w .K ∷ w .N ∷ length (s .channels) ∷ []) (replicate 5 0) 3 i refl ∙ getD-replicate 5 i 0 0 b;
       }
-    where
-      parts : T (sizes (w .K) (w .N) (length (s .channels))) × T (all (valid-core w) (s .cores)) × T (all (valid-process s) (from 1 (w .N)))
-          × T (all (valid-channel w) (s .channels))
-      parts =
-          four (sizes (w .K) (w .N) (length (s .channels))) (all (valid-core w) (s .cores)) (all (valid-process s) (from 1 (w .N)))
-          (all (valid-channel w) (s .channels)) good
 
   some : 1 ≤ N-of t
   some = header-processes t header-fits .0
@@ -208,3 +210,92 @@ module _ (t : List ℕ) (good : T (valid (view t))) (packed : pack (view t) ≡ 
             each = batch-here;
           };
         }
+
+  -- who stands somewhere is a process
+  standing-range : (q : ℕ) → 1 ≤ on-cores s q + in-queues s q → (1 ≤ q) × (q ≤ length (s .processes))
+  unfolding on-cores
+  standing-range q m = cases (leb 1 (in-queues s q)) refl
+    where
+      cases : (y : Bool) → leb 1 (in-queues s q) ≡ y → (1 ≤ q) × (q ≤ length (s .processes))
+      cases true e = queued-range s v q (leb-true 1 (in-queues s q) e)
+      cases false e =
+          let r = positive-term (λ (x : Core). runs-it q (x .work)) (s .cores) no-core (omega (arith, leb-false 1 (in-queues s q) e)) in
+          runs-range w q (core-of s (r .0) .work) (v .cores (r .0) (r .1) .work) (r .2)
+
+  -- no process stands in two places
+  places-apart : Apart (N-of t) (λ q. 0) (λ q. total (standing q) (s .cores))
+  places-apart q m =
+      let r = standing-range q (omega (arith, standing-is s q)) in
+      (r .0, subst (λ (n : ℕ). q ≤ n) (processes-of-view t) (r .1), refl,
+        omega (arith, standing-is s q, stands-total (on-cores s q) (in-queues s q) (process-of s q .place) (v .processes q (r .0) (r .1) .stands)))
+
+  module _ (p : ℕ) (l : 1 ≤ p) (b : p ≤ N-of t) where
+    exists : p ≤ length (s .processes)
+    exists = subst (λ (n : ℕ). p ≤ n) (sym (processes-of-view t)) b
+
+    process : process-of s p ≡ view-process t p
+    process = process-of-view t p l b
+
+    -- words of its own that are packed from the a-th word on
+    read-is : (f : Process → List ℕ) (a n : ℕ) → length (f (process-of s p)) ≡ n
+        → ((i : ℕ) → i < n → process-word (pack s) p (a + i) ≡ getD (f (process-of s p)) i 0) → f (view-process t p) ≡ tabulate (process-word t p) a n
+    read-is f a n size e =
+        ap f (sym process) ∙ words-block (process-word (pack s) p) a n (f (process-of s p)) size e
+        ∙ ap (λ (u : List ℕ). tabulate (process-word u p) a n) packed
+
+    -- its own words are those of a valid process
+    process-here : FlatProcess t p
+    process-here =
+        let valid-here = v .processes p l exists in
+        let x = process-of s p .progress in
+        record {
+          count = subst (λ (x : Process). x .alternation .count ≤ 9) process (valid-here .count);
+          progress = subst (λ (x : Process). T (valid-progress w p (x .progress))) process (valid-here .progress);
+          places = subst (λ (x : Process). T (fits (x .place) (x .progress))) process (valid-here .fits);
+          state = read-is state-words 0 6 refl (λ i c. ap (process-word (pack s) p) (zero-add i) ∙ state-word s p l exists i c);
+          words = read-is (λ x. progress-words (x .progress)) 6 14 (length-progress-words x) (progress-word s p l exists);
+        }
+
+    -- it has no links that it should not have
+    no-links : NoLinks t (K-of t) p (in-queues s p) (heads-in s p)
+    no-links = record { next = λ e. links p l exists 0 (lit< tt) ∙ no-next s p e; batch = no-batch }
+      where
+        no-batch : heads-in s p ≡ 0 → (f : ℕ) → f < 3 → word t (process-at (K-of t) p 21 + f) ≡ 0
+        no-batch e f c =
+            let behind = head-link last s p ∷ head-link length s p ∷ batch-link s p ∷ [] in
+            let none : behind ≡ replicate 3 0 = cc (no-head-link s p last e, no-head-link s p length e, no-batch-link s p e) in
+            let place : process-at (K-of t) p 21 + f ≡ process-at (K-of t) p (20 + (1 + f)) = omega arith in
+            ap (word t) place ∙ links p l exists (1 + f) (omega arith) ∙ second-part (next-link s p ∷ []) behind 1 f refl
+            ∙ ap (λ (m : List ℕ). getD m f 0) none ∙ getD-replicate 3 f 0 0 c
+
+    -- what was met of it fits
+    meeting-here : T (meeting-fits t (K-of t) p (process-word t p 0) (total (load p) (s .cores)))
+    unfolding view-process
+    meeting-here =
+        let y = view-process t p .place in
+        let state = process-here .state in
+        let place : process-word t p 0 ≡ place-number y = cc in
+        let stands-here : T (stands (on-cores s p) (in-queues s p) y) =
+          subst (λ (x : Process). T (stands (on-cores s p) (in-queues s p) (x .place))) process (v .processes p l exists .stands) in
+        rw (place, load-is)
+        (meeting-exact t (K-of t) p (on-cores s p) (in-queues s p) (heads-in s p) y (stands-total (on-cores s p) (in-queues s p) y stands-here)
+        (heads-below t some core-here p) .1 (stands-here, no-links))
+
+  -- its channels are valid
+  channel-here : (c : ℕ) → 1 ≤ c → c ≤ M-of t → T (valid-channel w (view-channel t c))
+  channel-here zero l b = absurd (omega arith)
+  channel-here (suc c) l b =
+      subst (λ (x : Channel). T (valid-channel w x)) (channel-of-view t (suc c) l b)
+      (all-at (valid-channel w) (s .channels) no-channel (parts .3) c (subst (λ (n : ℕ). c < n) (sym (channels-of-view t)) b))
+
+  -- A sound table fits.
+  pub sound-fits : Fitting t
+  sound-fits =
+      record {
+        header = header-fits;
+        cores = core-here;
+        apart = places-apart;
+        processes = process-here;
+        meetings = meeting-here;
+        channels = channel-here;
+      }
