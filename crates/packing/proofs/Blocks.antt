@@ -87,7 +87,7 @@ flat-at f b same a (suc n) (suc i) j h g =
 
 -- Lengths
 
-pub length-padded : (n : ℕ) (l : List ℕ) → length (padded n l) ≡ n
+length-padded : (n : ℕ) (l : List ℕ) → length (padded n l) ≡ n
 length-padded zero l = refl
 length-padded (suc n) [] = ap suc (length-padded n [])
 length-padded (suc n) (x ∷ xs) = ap suc (length-padded n xs)
@@ -162,6 +162,7 @@ words-of s =
 pub second-part : (l m : List ℕ) (n i : ℕ) → length l ≡ n → getD (l ++ m) (n + i) 0 ≡ getD m i 0
 second-part l m n i e = subst (λ (k : ℕ). getD (l ++ m) (k + i) 0 ≡ getD m i 0) e (getD-append-add l m i 0)
 
+-- a word of the first
 pub first-part : (l m : List ℕ) (n i : ℕ) → length l ≡ n → i < n → getD (l ++ m) i 0 ≡ getD l i 0
 first-part l m n i e h = List·getD-append l m 0 i (subst (λ (k : ℕ). i < k) (sym e) h)
 

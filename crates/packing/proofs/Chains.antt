@@ -1,13 +1,13 @@
 -- The queues of a valid state as chains: each process stands in at most one queue and at most once, so the sums of the packing are
 -- what follows a process in its queue, and what is linked behind a queue's first process is the queue.
-use Prim.Native.Nat.{ℕ, zero, suc, _+_, _≤_, _<_}
-use mathlib.Core.Path.{_≡_, refl, sym, ap, _∙_, subst}
-use mathlib.Core.Bool.{Bool, true, false}
-use mathlib.Core.List.{List, [], _∷_, map}
+use Prim.Native.Nat.{ℕ, zero, suc, _≤_, _<_}
+use mathlib.Core.Path.{_≡_, refl, ap, _∙_}
+use mathlib.Core.Bool.{Bool, true, false, _&&_}
+use mathlib.Core.List.{List, [], _∷_}
 use native.Mathlib.Omega.{arith}
 use lib.Dec.{T, eqb, leb, eqb→eq}
 use lib.ListN.{length, getD}
-use borrow.Author.Tests.{eqb-true, eqb-false, leb-true, leb-false, eq-eqb, ne-eqb}
+use borrow.Author.Tests.{leb-true, leb-false, eq-eqb, ne-eqb}
 use Rattle.rules.specs.Lists.{if_then_else_, total, times, bit, first, follows}
 use Rattle.rules.specs.State.{Place, running, queued, asleep, ended, Core, queues-of, State}
 use Rattle.rules.specs.Items.{core-of, process-of, no-core}
@@ -19,7 +19,7 @@ use Rattle.packing.proofs.Sums.{total-le, term-le-total, positive-term,
 -- One list
 
 -- what follows a list's first number there
-follows-head : (x : ℕ) (xs : List ℕ) → follows x (x ∷ xs) ≡ first xs
+pub follows-head : (x : ℕ) (xs : List ℕ) → follows x (x ∷ xs) ≡ first xs
 follows-head x xs = ap (λ (t : Bool). if t then first xs else follows x xs) (eq-eqb x x refl)
 
 -- nothing follows a number that doesn't stand in the list
@@ -57,17 +57,23 @@ chain-to m (suc n) link (suc x ∷ xs) a b e =
         e p (omega arith)
         ∙ ap (λ (t : Bool). if t then first xs else follows p xs) (stands-behind m (suc x) xs a p h)
 
-pub chain-back : (n : ℕ) (link : ℕ → ℕ) (l : List ℕ) → Among n l → ((p : ℕ) → 1 ≤ times p l → link p ≡ follows p l) → chain link n (first l) ≡ l
+-- the same with no more than n links, where the numbers are of 1 to n
+pub chain-back : (n : ℕ) (link : ℕ → ℕ) (l : List ℕ) → Among n l → ((p : ℕ) → 1 ≤ times p l → link p ≡ follows p l)
+    → chain link n (first l) ≡ l
 chain-back n link l a e = chain-to n n link l a (among-length n l a) e
 
 -- The queues of a state
 
+-- two tests of numbers, of which the second says at most 1
+at-most-one : (a b x y : ℕ) → y ≤ 1 → T (eqb a x && eqb b y) → b ≤ 1
+at-most-one a b x y l h = omega (arith, eqb→eq b y (both (eqb a x) (eqb b y) h .1))
+
 -- a process that is in its place stands in the queues at most once
-stands-once : (cores queues : ℕ) (x : Place) → T (stands cores queues x) → queues ≤ 1
-stands-once cores queues running h = omega (arith, eqb→eq queues 0 (both (eqb cores 1) (eqb queues 0) h .1))
-stands-once cores queues queued h = omega (arith, eqb→eq queues 1 (both (eqb cores 0) (eqb queues 1) h .1))
-stands-once cores queues asleep h = omega (arith, eqb→eq queues 0 (both (eqb cores 0) (eqb queues 0) h .1))
-stands-once cores queues ended h = omega (arith, eqb→eq queues 0 (both (eqb cores 0) (eqb queues 0) h .1))
+pub stands-once : (cores queues : ℕ) (x : Place) → T (stands cores queues x) → queues ≤ 1
+stands-once cores queues running h = at-most-one cores queues 1 0 (omega arith) h
+stands-once cores queues queued h = at-most-one cores queues 0 1 (omega arith) h
+stands-once cores queues asleep h = at-most-one cores queues 0 0 (omega arith) h
+stands-once cores queues ended h = at-most-one cores queues 0 0 (omega arith) h
 
 -- queue i of core k: the active queue, then the batches of the run queue
 abbrev pub queue-of : State → ℕ → ℕ → List ℕ
@@ -112,7 +118,8 @@ module _ (s : State) (v : Valid s) where
         }
 
     -- a process is linked to what follows it in its queue
-    pub next-follows : (i : ℕ) → i < length (queues-of (core-of s k)) → (p : ℕ) → 1 ≤ times p (queue-of s k i) → next-link s p ≡ follows p (queue-of s k i)
+    pub next-follows : (i : ℕ) → i < length (queues-of (core-of s k)) → (p : ℕ) → 1 ≤ times p (queue-of s k i)
+        → next-link s p ≡ follows p (queue-of s k i)
     unfolding next-link in-queues
     next-follows i c p h =
         let l = queues-of (core-of s k) in
@@ -125,8 +132,11 @@ module _ (s : State) (v : Valid s) where
     pub heads-in-core : (p : ℕ) → times p (heads (core-of s k .run-queue)) ≤ total (times p) (queues-of (core-of s k))
     heads-in-core p =
         let l = core-of s k .run-queue in
-        omega (arith, total-map (λ x. bit (eqb x p)) first l,
-          total-le (λ x. bit (eqb (first x) p)) (times p) [] l (λ i c. head-in-batch p (getD l i []) (v .cores k b .batches i c)))
+        omega (
+          arith,
+          total-map (λ x. bit (eqb x p)) first l,
+          total-le (λ x. bit (eqb (first x) p)) (times p) [] l (λ i c. head-in-batch p (getD l i []) (v .cores k b .batches i c)),
+        )
 
     -- the heads of a core's batches are distinct processes
     pub heads-among : Among (length (s .processes)) (heads (core-of s k .run-queue))

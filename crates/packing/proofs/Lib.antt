@@ -1,10 +1,11 @@
 pub mod Regions
 pub mod Blocks
+pub mod Tabulate
 pub mod Reflect
 pub mod Sums
 pub mod Chains
 pub mod Reading
-pub mod ViewChannel
 pub mod ViewCore
 pub mod ViewProcess
+pub mod ViewChannel
 pub mod Means

@@ -1,19 +1,16 @@
 -- What the packing means: the three claims on packing, put together.
-use Prim.Native.Nat.{ℕ}
-use mathlib.Core.Path.{_≡_, refl, sym, ap, _∙_, subst}
-use mathlib.Core.List.{List}
-use mathlib.Core.Logic.{_↔_}
+use mathlib.Core.Path.{_≡_, sym, ap, _∙_}
 use native.Mathlib.Nat.{zero-add}
 use lib.Dec.{T}
-use lib.ListN.{length}
-use Rattle.rules.specs.Lists.{tabulate, same-words}
-use Rattle.rules.specs.State.{Core, Process, Channel, State}
+use Rattle.rules.specs.Lists.{same-words}
+use Rattle.rules.specs.State.{State}
 use Rattle.rules.specs.Items.{no-core, no-process, no-channel}
 use Rattle.rules.specs.Packing.{pack, view-core, view-process, view-channel, view}
 use Rattle.rules.specs.Soundness.{valid, sound}
 use Rattle.rules.specs.Claims.{ViewOfPack, OnePacking, SoundMeans}
-use Rattle.packing.proofs.Reflect.{both, and, same-words-means, same-words-refl, valid-means}
-use Rattle.packing.proofs.Reading.{tabulate-back, tabulate-nth, K-of-pack, N-of-pack, M-of-pack}
+use Rattle.packing.proofs.Tabulate.{tabulate-back, tabulate-nth}
+use Rattle.packing.proofs.Reflect.{both, together, same-words-means, same-words-refl, valid-means}
+use Rattle.packing.proofs.Reading.{header-of-pack}
 use Rattle.packing.proofs.ViewCore.{view-core-back}
 use Rattle.packing.proofs.ViewProcess.{view-process-back}
 use Rattle.packing.proofs.ViewChannel.{view-channel-back}
@@ -24,11 +21,10 @@ unfolding view
 view-of-pack s h =
     let t = pack s in
     let v = valid-means s h in
-    let cores = ap (tabulate (view-core t) 0) (K-of-pack s) ∙ tabulate-back (view-core t) 0 no-core (s .cores) (λ k b. rw zero-add (view-core-back s v k b)) in
-    let processes =
-      ap (tabulate (view-process t) 1) (N-of-pack s) ∙ tabulate-nth (view-process t) no-process (s .processes) (λ p l b. view-process-back s p l b v) in
-    let channels =
-      ap (tabulate (view-channel t) 1) (M-of-pack s) ∙ tabulate-nth (view-channel t) no-channel (s .channels) (view-channel-back s v) in
+    let n = header-of-pack s in
+    let cores = tabulate-back (view-core t) 0 _ no-core (s .cores) (n .cores) (λ k b. rw zero-add (view-core-back s v k b)) in
+    let processes = tabulate-nth (view-process t) _ no-process (s .processes) (n .processes) (view-process-back s v) in
+    let channels = tabulate-nth (view-channel t) _ no-channel (s .channels) (n .channels) (view-channel-back s v) in
     λ i. record { cores = cores i; processes = processes i; channels = channels i }
 
 -- Two valid states with one packing are equal.
@@ -49,4 +45,4 @@ sound-means t = (from-sound, to-sound)
     to-sound m =
         let packed : t ≡ pack (m .0) = m .2 in
         let same : view t ≡ m .0 = ap view packed ∙ view-of-pack (m .0) (m .1) in
-        and (valid (view t)) (same-words (pack (view t)) t) (rw same (m .1)) (rw (same, ← packed) (same-words-refl t))
+        together (valid (view t)) (same-words (pack (view t)) t) (rw same (m .1)) (rw (same, ← packed) (same-words-refl t))

@@ -1,17 +1,19 @@
 -- Sums over a list: how one sum bounds or determines another, and a list of distinct numbers of 1 to N, which is at most N long.
 use Prim.Native.Nat.{ℕ, zero, suc, _+_, _-_, _≤_, _<_}
-use mathlib.Core.Path.{_≡_, refl, sym, ap, _∙_, subst}
+use mathlib.Core.Path.{_≡_, refl, sym, ap}
 use mathlib.Core.Bool.{Bool, true, false}
 use mathlib.Core.List.{List, [], _∷_, map}
 use native.Mathlib.Omega.{arith}
 use lib.Dec.{eqb, leb}
 use lib.ListN.{length, getD}
 use borrow.Author.Tests.{leb-true, leb-false, eq-eqb}
-use Rattle.rules.specs.Lists.{total, tabulate, from, bit, times}
+use Rattle.rules.specs.Lists.{total, from, bit, times}
+use Rattle.packing.proofs.Tabulate.{length-tabulate, tabulate-at}
 
 module _ {A : Type 0} where
   -- a sum of numbers that are nowhere greater is no greater
-  pub total-le : (f g : A → ℕ) (d : A) (l : List A) → ((i : ℕ) → i < length l → f (getD l i d) ≤ g (getD l i d)) → total f l ≤ total g l
+  pub total-le : (f g : A → ℕ) (d : A) (l : List A) → ((i : ℕ) → i < length l → f (getD l i d) ≤ g (getD l i d))
+      → total f l ≤ total g l
   total-le f g d [] le = omega arith
   total-le f g d (x ∷ xs) le = omega (arith, le 0 (omega arith), total-le f g d xs (λ i b. le (suc i) (omega arith)))
 
@@ -52,8 +54,12 @@ module _ {A : Type 0} where
   total-only f g follow [] e d i b h = absurd (omega arith)
   total-only f g follow (x ∷ xs) e d zero b h = omega (arith, total-zero f g follow xs (omega arith))
   total-only f g follow (x ∷ xs) e d (suc i) b h =
-      omega (arith, term-le-total f xs d i (omega arith), follow x (omega (arith, term-le-total f xs d i (omega arith))),
-        total-only f g follow xs (omega arith) d i (omega arith) h)
+      omega (
+        arith,
+        term-le-total f xs d i (omega arith),
+        follow x (omega (arith, term-le-total f xs d i (omega arith))),
+        total-only f g follow xs (omega arith) d i (omega arith) h,
+      )
 
   -- a sum over a list that was made from another
   pub total-map : {B : Type 0} (f : B → ℕ) (g : A → B) (l : List A) → total f (map g l) ≡ total (λ a. f (g a)) l
@@ -67,17 +73,6 @@ pub record Among (n : ℕ) (l : List ℕ) : Type 0 where
   pub range : (p : ℕ) → 1 ≤ times p l → (1 ≤ p) × (p ≤ n)
   pub once : (p : ℕ) → times p l ≤ 1
 
--- the i-th of a, a + 1, .. (n of them)
-from-at : (a n i : ℕ) → i < n → getD (from a n) i 0 ≡ a + i
-from-at a zero i b = absurd (omega arith)
-from-at a (suc n) zero b = omega arith
-from-at a (suc n) (suc i) b = omega (arith, from-at (suc a) n i (omega arith))
-
--- there are n of a, a + 1, ..
-length-from : (a n : ℕ) → length (from a n) ≡ n
-length-from a zero = refl
-length-from a (suc n) = ap suc (length-from (suc a) n)
-
 -- a number stands in a list where it is the first
 pub head-stands : (x : ℕ) (xs : List ℕ) → times x (x ∷ xs) ≡ 1 + times x xs
 head-stands x xs = ap (λ (t : Bool). bit t + times x xs) (eq-eqb x x refl)
@@ -87,14 +82,17 @@ counted : (n : ℕ) (l : List ℕ) → ((p : ℕ) → 1 ≤ times p l → (1 ≤
 counted n [] range = omega arith
 counted n (x ∷ xs) range =
     let r : (1 ≤ x) × (x ≤ n) = range x (omega (arith, head-stands x xs)) in
-    let e : getD (from 1 n) (x - 1) 0 ≡ x = omega (arith, from-at 1 n (x - 1) (omega arith)) in
+    let e : getD (from 1 n) (x - 1) 0 ≡ x = omega (arith, tabulate-at (λ j. j) 1 n 0 (x - 1) (omega arith)) in
     let one : bit (eqb x (getD (from 1 n) (x - 1) 0)) ≡ 1 = ap bit (eq-eqb x _ (sym e)) in
-    omega (arith,
-      term-le-total (λ p. bit (eqb x p)) (from 1 n) 0 (x - 1) (omega (arith, length-from 1 n)),
+    omega (
+      arith,
+      term-le-total (λ p. bit (eqb x p)) (from 1 n) 0 (x - 1) (omega (arith, length-tabulate (λ j. j) 1 n)),
       counted n xs (λ p b. range p (omega arith)),
-      total-add (λ p. bit (eqb x p)) (λ p. times p xs) (from 1 n))
+      total-add (λ p. bit (eqb x p)) (λ p. times p xs) (from 1 n),
+    )
 
 -- A list of distinct numbers of 1 to n is at most n long.
 pub among-length : (n : ℕ) (l : List ℕ) → Among n l → length l ≤ n
 among-length n l a =
-    omega (arith, counted n l (a .range), total-le (λ p. times p l) (λ p. 1) 0 (from 1 n) (λ i b. a .once _), total-one (from 1 n), length-from 1 n)
+    let le : total (λ p. times p l) (from 1 n) ≤ total (λ p. 1) (from 1 n) = total-le _ _ 0 (from 1 n) (λ i b. a .once _) in
+    omega (arith, counted n l (a .range), total-one (from 1 n), length-tabulate (λ j. j) 1 n)

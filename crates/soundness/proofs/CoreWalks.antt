@@ -102,26 +102,26 @@ each-from C k n here rest j l b = cases (eqb k j) refl
 module _ (t : List ℕ) where
   -- the heads of a core's batches
   abbrev pub heads-of : ℕ → List ℕ
-  heads-of k = chain (batch-behind t (K-of t) (N-of t)) (N-of t) (core-word t k 8)
+  heads-of k = chain (batch-behind t) (N-of t) (core-word t k 8)
 
   -- what the check asks of a core by itself
   pub record CoreFits (k : ℕ) : Type 0 where
     pub flat : T (core-fits t (N-of t) k)
-    pub active : Queue (next-of t (K-of t) (N-of t)) (core-word t k 4) (word t (core-at k 4 + 1)) (core-word t k 3) 0 0 (view-core t k .active)
-    pub batches : Heads t (K-of t) (N-of t) (core-word t k 9) (core-word t k 8) 0 (heads-of k)
+    pub active : Queue (next-of t) (core-word t k 4) (word t (core-at k 4 + 1)) (core-word t k 3) 0 0 (view-core t k .active)
+    pub batches : Heads t (core-word t k 9) (core-word t k 8) 0 (heads-of k)
 
   -- the heads of the batches that are read out of the table
   pub heads-are : 1 ≤ N-of t → (k : ℕ) → heads (view-core t k .run-queue) ≡ heads-of k
   unfolding view-core
   heads-are some k =
-      heads-back (batch-of t (K-of t) (N-of t)) (heads-of k) (λ h. chain-first (next-of t (K-of t) (N-of t)) (N-of t) h some)
+      heads-back (batch-of t) (heads-of k) (λ h. chain-first (next-of t) (N-of t) h some)
 
   -- a head stands in its batch
   pub heads-stand : 1 ≤ N-of t → (k : ℕ) → CoreFits k → (q : ℕ) → times q (heads (view-core t k .run-queue)) ≤ total (times q) (view-core t k .run-queue)
   unfolding view-core
   heads-stand some k h q =
-      let link = next-of t (K-of t) (N-of t) in
-      let batch = batch-of t (K-of t) (N-of t) in
+      let link = next-of t in
+      let batch = batch-of t in
       let e = h .batches .each in
       omega (arith, ap (times q) (heads-are some k),
         members-stand batch q (heads-of k) (λ x b. first-stands link x (batch x) (e x b .queue .linked) (e x b .low) q))
@@ -135,13 +135,13 @@ module _ (t : List ℕ) where
       (λ f. exact-then P Q (Apart N c running) (Met N c₁) (meet-running t N k met) after-running
         (running-exact N c met agrees (core-word t k 0) (core-word t k 1) (core-word t k 2)) (λ h. apart-first N c running c₁ queues (h .1))
         (λ m₁ a₁ g₁. exact-then P Q P₂ Q₂ (chain-walk t K N (core-at k 4) N m₁ (core-word t k 3) 0 0) after-active
-          (chain-exact t K N (core-at k 4) N m₁ c₁ (core-word t k 3) 0 0 g₁)
+          (chain-exact t (core-at k 4) N m₁ c₁ (core-word t k 3) 0 0 g₁)
           (λ h. (h .0 .active, apart-first N c₁ active c₂ batches (apart-second N c running c₁ queues grown₁ (h .1))))
           (λ m₂ h₂ g₂. exact-as P Q P₃ Q₃ (after-active m₂)
             (λ h. (record { flat = f; active = h₂ .0; batches = h .0 },
               apart-both N c running c₁ queues grown₁ a₁ (apart-both N c₁ active c₂ batches grown₂ (h₂ .1) (h .1))))
             (λ h. (h .0 .batches, apart-second N c₁ active c₂ batches grown₂ (apart-second N c running c₁ queues grown₁ (h .1))))
-            (λ m h. met-as N _ _ m (λ q. omega (arith, ap (times q) (heads-are some k)))) (batch-exact t K N k N m₂ c₂ (core-word t k 8) 0 g₂))))
+            (λ m h. met-as N _ _ m (λ q. omega (arith, ap (times q) (heads-are some k)))) (batch-exact t k N m₂ c₂ (core-word t k 8) 0 g₂))))
     where
       K : ℕ
       K = K-of t
@@ -176,16 +176,16 @@ module _ (t : List ℕ) where
       c₂ q = c₁ q + 2 * active q
 
       P₂ : Type 0
-      P₂ = QueueFrom t K N (core-at k 4) N c₁ (core-word t k 3) 0 0
+      P₂ = QueueFrom t (core-at k 4) N c₁ (core-word t k 3) 0 0
 
       Q₂ : List ℕ → Type 0
-      Q₂ = MetFrom t K N (core-at k 4) N c₁ (core-word t k 3)
+      Q₂ = MetFrom t (core-at k 4) N c₁ (core-word t k 3)
 
       P₃ : Type 0
-      P₃ = HeadsFrom t K N k N c₂ (core-word t k 8) 0
+      P₃ = HeadsFrom t k N c₂ (core-word t k 8) 0
 
       Q₃ : List ℕ → Type 0
-      Q₃ = MetHeads t K N k N c₂ (core-word t k 8)
+      Q₃ = MetHeads t k N c₂ (core-word t k 8)
 
       after-active : List ℕ → Walk
       after-active m = batch-walk t K N k N m (core-word t k 8) 0

@@ -10,7 +10,7 @@ use Rattle.rules.specs.Lists.{if_then_else_, within, bit}
 use Rattle.rules.specs.State.{Work, Wiring}
 use Rattle.rules.specs.Packing.{work-words, N-of, core-at, core-word, work-from}
 use Rattle.rules.specs.Soundness.{is-process, valid-work}
-use Rattle.packing.proofs.Reflect.{both, three, four, and, within-means}
+use Rattle.packing.proofs.Reflect.{both, three, four, together, within-means}
 use Rattle.soundness.proofs.Tests.{equal-holds, within-holds, all-three, all-four, zeros-mean, zeros-hold, bit-means, bit-holds}
 use Rattle.soundness.specs.Twin.{word, zeros, task-fits, core-fits}
 

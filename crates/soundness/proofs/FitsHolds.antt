@@ -40,6 +40,7 @@ use Rattle.rules.specs.Packing.{
 use Rattle.rules.specs.Soundness.{in-queues}
 use Rattle.packing.proofs.Regions.{Holds}
 use Rattle.packing.proofs.Blocks.{dims, words-of}
+use Rattle.packing.proofs.Tabulate.{tabulate-at}
 use Rattle.packing.proofs.Reflect.{Valid, valid-means}
 use Rattle.packing.proofs.Sums.{positive-term, total-map}
 use Rattle.packing.proofs.Chains.{next-follows, batch-follows}
@@ -47,7 +48,7 @@ use Rattle.packing.proofs.Reading.{state-words, link-words}
 use Rattle.packing.proofs.ViewCore.{queue-words}
 use Rattle.soundness.proofs.Walks.{next-of, batch-of, batch-behind, Batch}
 use Rattle.soundness.proofs.CoreWalks.{CoreFits, chain-first, heads-of, heads-are}
-use Rattle.soundness.proofs.Views.{tabulate-at, cores-of-view, processes-of-view, channels-of-view, core-of-view, process-of-view, channel-of-view}
+use Rattle.soundness.proofs.Views.{cores-of-view, processes-of-view, channels-of-view, core-of-view, process-of-view, channel-of-view}
 use Rattle.soundness.proofs.FitsChannel.{channel-words-back}
 use Rattle.soundness.proofs.FitsCore.{FlatCore}
 use Rattle.soundness.proofs.FitsProcess.{FlatProcess, NoLinks}
@@ -58,7 +59,7 @@ use Rattle.soundness.specs.Twin.{word}
 
 -- a word of a block whose words are these
 block-word : (f : ℕ → ℕ) (n i : ℕ) (l : List ℕ) → l ≡ tabulate f 0 n → i < n → f i ≡ getD l i 0
-block-word f n i l e b = sym (ap (λ (m : List ℕ). getD m i 0) e ∙ tabulate-at f 0 n i 0 b ∙ ap f (zero-add i))
+block-word f n i l e b = sym (ap (λ (m : List ℕ). getD m i 0) e ∙ tabulate-at f 0 n 0 i b ∙ ap f (zero-add i))
 
 module _ (t : List ℕ) (words : (i : ℕ) → getD t i 0 < 4294967296) (h : Fitting t) where
   abbrev s : State
@@ -78,13 +79,13 @@ module _ (t : List ℕ) (words : (i : ℕ) → getD t i 0 < 4294967296) (h : Fit
   queue-follows : (k : ℕ) → k < K-of t → (i : ℕ) → i < length (queues-of (view-core t k)) → (p : ℕ) → 1 ≤ times p (getD (queues-of (view-core t k)) i [])
       → follows p (getD (queues-of (view-core t k)) i []) ≡ process-word t p 20
   queue-follows k b zero c p m =
-      linked-follows (next-of t (K-of t) (N-of t)) (core-word t k 3) (view-core t k .active) (h .cores k b .active .linked) p m
+      linked-follows (next-of t) (core-word t k 3) (view-core t k .active) (h .cores k b .active .linked) p m
   queue-follows k b (suc i) c p m =
       let l = getD (view-core t k .run-queue) i [] in
-      let e : l ≡ batch-of t (K-of t) (N-of t) (first l) = batch-is t some k i (omega arith) in
+      let e : l ≡ batch-of t (first l) = batch-is t some k i (omega arith) in
       let x = batch-fits t some (h .cores) k i b (omega arith) in
       ap (follows p) e
-      ∙ linked-follows (next-of t (K-of t) (N-of t)) (first l) (batch-of t (K-of t) (N-of t) (first l)) (x .queue .linked) p (omega (arith, ap (times p) e))
+      ∙ linked-follows (next-of t) (first l) (batch-of t (first l)) (x .queue .linked) p (omega (arith, ap (times p) e))
 
   module _ (p : ℕ) (l : 1 ≤ p) (b : p ≤ N-of t) where
     -- next
@@ -122,17 +123,17 @@ module _ (t : List ℕ) (words : (i : ℕ) → getD t i 0 < 4294967296) (h : Fit
         let q = head-found batches p (c .2) in
         let i = q .0 in
         let one : heads-in s p ≤ 1 = omega (arith, heads-below t some (h .cores) p, standing-once t words h p) in
-        let batch : getD batches i [] ≡ batch-of t (K-of t) (N-of t) p = batch-from t some k d i (q .1) p (q .2) in
-        let keeps : (f : List ℕ → ℕ) → head-link f s p ≡ f (batch-of t (K-of t) (N-of t) p) =
+        let batch : getD batches i [] ≡ batch-of t p = batch-from t some k d i (q .1) p (q .2) in
+        let keeps : (f : List ℕ → ℕ) → head-link f s p ≡ f (batch-of t p) =
           λ f. head-keeps s p f one k (c .1) i (q .1) (q .2) ∙ ap f batch in
         let all-heads : heads batches ≡ heads-of t k = ap (λ (x : Core). heads (x .run-queue)) core ∙ heads-are t some k in
         let stands : 1 ≤ times p (heads-of t k) = omega (arith, c .2, ap (times p) all-heads) in
         let x = h .cores k d .batches in
         let queue = x .each p stands .queue in
-        (keeps last ∙ sym (last-from-zero (batch-of t (K-of t) (N-of t) p)) ∙ sym (queue .last-is),
-          keeps length ∙ sym (zero-add (length (batch-of t (K-of t) (N-of t) p))) ∙ sym (queue .size-is) ∙ ap (word t) (omega arith),
+        (keeps last ∙ sym (last-from-zero (batch-of t p)) ∙ sym (queue .last-is),
+          keeps length ∙ sym (zero-add (length (batch-of t p))) ∙ sym (queue .size-is) ∙ ap (word t) (omega arith),
           batch-follows s v k (c .1) p (c .2) ∙ ap (follows p) all-heads
-          ∙ linked-follows (batch-behind t (K-of t) (N-of t)) (core-word t k 8) (heads-of t k) (x .linked) p stands)
+          ∙ linked-follows (batch-behind t) (core-word t k 8) (heads-of t k) (x .linked) p stands)
 
     heads-none : heads-in s p ≡ 0 → HeadWords
     heads-none e =
@@ -169,12 +170,12 @@ module _ (t : List ℕ) (words : (i : ℕ) → getD t i 0 < 4294967296) (h : Fit
       let c = view-core t k in
       let flat = flat-core t words h k b in
       let fits = h .cores k b in
-      let link = next-of t (K-of t) (N-of t) in
+      let link = next-of t in
       let all-heads : heads (c .run-queue) ≡ heads-of t k = heads-are t some k in
       let first-active : first (c .active) ≡ w 3 = chain-first link (N-of t) (w 3) some in
       let last-active : last (c .active) ≡ w 4 = sym (last-from-zero (c .active)) ∙ sym (fits .active .last-is) in
       let size-active : length (c .active) ≡ w 5 = sym (zero-add (length (c .active))) ∙ sym (fits .active .size-is) ∙ ap (word t) (omega arith) in
-      let first-head : first (heads (c .run-queue)) ≡ w 8 = ap first all-heads ∙ chain-first (batch-behind t (K-of t) (N-of t)) (N-of t) (w 8) some in
+      let first-head : first (heads (c .run-queue)) ≡ w 8 = ap first all-heads ∙ chain-first (batch-behind t) (N-of t) (w 8) some in
       let last-head : last (heads (c .run-queue)) ≡ w 9 = ap last all-heads ∙ sym (last-from-zero (heads-of t k)) ∙ sym (fits .batches .last-is) in
       let unused : (f : ℕ) → f < 6 → 0 ≡ w (10 + f) = λ f b. sym (flat .unused f b) ∙ ap (word t) (omega arith) in
       let queues : queue-words c ≡ tabulate w 3 13 =

@@ -13,7 +13,7 @@ use Rattle.rules.specs.Lists.{if_then_else_, within, tabulate, bit}
 use Rattle.rules.specs.State.{Place, running, queued, asleep, ended, Progress, Wiring, wiring}
 use Rattle.rules.specs.Packing.{place-number, progress-words, K-of, N-of, M-of, process-at, process-word, place-from, view-process, view}
 use Rattle.rules.specs.Soundness.{valid-progress, fits, stands}
-use Rattle.packing.proofs.Reflect.{both, three, and, within-means}
+use Rattle.packing.proofs.Reflect.{both, three, together, within-means}
 use Rattle.packing.proofs.Reading.{state-words}
 use Rattle.soundness.proofs.Tests.{bit-means, bit-holds, zeros-mean, zeros-hold, six, all-six}
 use Rattle.soundness.proofs.FitsProgress.{progress-exact, places-are}
@@ -74,7 +74,7 @@ module _ (t met : List ℕ) (p : ℕ) where
           let state = h .0 .state in
           let place : place-number (place-from (w 0)) ≡ w 0 = cc in
           let good : T (place-fits (w 0) (w 6)) = rw (places-are t p x, place) at (h .0 .places) in
-          and (leb (w 2) 1 && leb (w 3) 1 && leb (w 4) 1 && leb (w 5) 9 && place-fits (w 0) (w 6) && meeting) progress
+          together (leb (w 2) 1 && leb (w 3) 1 && leb (w 4) 1 && leb (w 5) 9 && place-fits (w 0) (w 6) && meeting) progress
           (all-six (leb (w 2) 1) (leb (w 3) 1) (leb (w 4) 1) (leb (w 5) 9) (place-fits (w 0) (w 6)) meeting
           (bit-holds (eqb (w 2) 1) (w 2) (cc)) (bit-holds (eqb (w 3) 1) (w 3) (cc)) (bit-holds (eqb (w 4) 1) (w 4) (cc)) (le→leb (w 5) 9 (h .0 .count)) good (h .1)) x
 
@@ -85,24 +85,17 @@ pub record NoLinks (t : List ℕ) (K p queues heads : ℕ) : Type 0 where
   pub next : queues ≡ 0 → word t (process-at K p 20) ≡ 0
   pub batch : heads ≡ 0 → (f : ℕ) → f < 3 → word t (process-at K p 21 + f) ≡ 0
 
--- where a process stands, as a test of its place's number
-stands-asleep : (y : Place) → stands 0 0 y ≡ leb 3 (place-number y)
-stands-asleep running = refl
-stands-asleep queued = refl
-stands-asleep asleep = refl
-stands-asleep ended = refl
+-- where a process stands, as a test of its place's number: nowhere, on a core, in a queue
+pub record PlaceTests (y : Place) : Type 0 where
+  pub nowhere : stands 0 0 y ≡ leb 3 (place-number y)
+  pub on-core : stands 1 0 y ≡ eqb (place-number y) 1
+  pub in-queue : stands 0 1 y ≡ eqb (place-number y) 2
 
-stands-running : (y : Place) → stands 1 0 y ≡ eqb (place-number y) 1
-stands-running running = refl
-stands-running queued = refl
-stands-running asleep = refl
-stands-running ended = refl
-
-stands-queued : (y : Place) → stands 0 1 y ≡ eqb (place-number y) 2
-stands-queued running = refl
-stands-queued queued = refl
-stands-queued asleep = refl
-stands-queued ended = refl
+place-tests : (y : Place) → PlaceTests y
+place-tests running = record { nowhere = refl; on-core = refl; in-queue = refl }
+place-tests queued = record { nowhere = refl; on-core = refl; in-queue = refl }
+place-tests asleep = record { nowhere = refl; on-core = refl; in-queue = refl }
+place-tests ended = record { nowhere = refl; on-core = refl; in-queue = refl }
 
 module _ (t : List ℕ) (K p : ℕ) where
   -- who has no links at all
@@ -125,16 +118,16 @@ module _ (t : List ℕ) (K p : ℕ) where
   -- a test and another that says the same as a fact
   both-exact : (a a′ b : Bool) (C : Type 0) → a′ ≡ a → T b ↔ C → T (a && b) ↔ (T a′ × C)
   both-exact a a′ b C e r =
-      (λ h. let u = both a b h in (rw e (u .0), r .0 (u .1)), λ h. and a b (subst T e (h .0)) (r .1 (h .1)))
+      (λ h. let u = both a b h in (rw e (u .0), r .0 (u .1)), λ h. together a b (subst T e (h .0)) (r .1 (h .1)))
 
   -- What was met fits exactly where the process stands in its place and has no links that it should not have.
   pub meeting-exact : (cores queues heads : ℕ) (y : Place) → cores + queues ≤ 1 → heads ≤ queues
       → T (meeting-fits t K p (place-number y) (cores + 2 * queues + heads)) ↔ (T (stands cores queues y) × NoLinks t K p queues heads)
-  meeting-exact zero zero zero y b c = both-exact (leb 3 (place-number y)) (stands 0 0 y) _ _ (stands-asleep y) no-links
-  meeting-exact (suc zero) zero zero y b c = both-exact (eqb (place-number y) 1) (stands 1 0 y) _ _ (stands-running y) no-links
-  meeting-exact zero (suc zero) zero y b c = both-exact (eqb (place-number y) 2) (stands 0 1 y) _ _ (stands-queued y) no-batch-links
+  meeting-exact zero zero zero y b c = both-exact (leb 3 (place-number y)) (stands 0 0 y) _ _ (place-tests y .nowhere) no-links
+  meeting-exact (suc zero) zero zero y b c = both-exact (eqb (place-number y) 1) (stands 1 0 y) _ _ (place-tests y .on-core) no-links
+  meeting-exact zero (suc zero) zero y b c = both-exact (eqb (place-number y) 2) (stands 0 1 y) _ _ (place-tests y .in-queue) no-batch-links
   meeting-exact zero (suc zero) (suc zero) y b c =
-      (λ h. (rw stands-queued h, record { next = λ e. absurd (omega arith); batch = λ e. absurd (omega arith) }), λ h. rw stands-queued at (h .0))
+      (λ h. (rw (place-tests y .in-queue) h, record { next = λ e. absurd (omega arith); batch = λ e. absurd (omega arith) }), λ h. rw (place-tests y .in-queue) at (h .0))
   meeting-exact zero zero (suc heads) y b c = absurd (omega arith)
   meeting-exact zero (suc zero) (suc (suc heads)) y b c = absurd (omega arith)
   meeting-exact zero (suc (suc queues)) heads y b c = absurd (omega arith)

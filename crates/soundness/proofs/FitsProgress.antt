@@ -28,9 +28,10 @@ use Rattle.rules.specs.Packing.{
   view,
 }
 use Rattle.rules.specs.Soundness.{is-process, own-end, own-guards, in-list, ready-in-list, valid-progress, fits}
-use Rattle.packing.proofs.Reflect.{both, three, five, and, within-means}
+use Rattle.packing.proofs.Tabulate.{length-tabulate}
+use Rattle.packing.proofs.Reflect.{both, three, five, together, within-means}
 use Rattle.soundness.proofs.Tests.{equal-holds, all-three, all-five, six, all-six}
-use Rattle.soundness.proofs.Views.{length-tabulate, take-tabulate, tabulate-as, processes-of-view, end-place, own-end-is}
+use Rattle.soundness.proofs.Views.{take-tabulate, tabulate-as, processes-of-view, end-place, own-end-is}
 use Rattle.soundness.proofs.Shapes.{Shape, shape-words, shape-valid, shape-beyond, shape-of}
 use Rattle.soundness.specs.Twin.{
   word,
@@ -88,7 +89,7 @@ zeros-exact t a (suc n) =
     (λ h. let r = both (eqb (word t a) 0) (zeros t (suc a) n) h in
       let here : word t a ≡ 0 = eqb→eq (word t a) 0 (r .0) in
       let behind : padded n [] ≡ tabulate (word t) (suc a) n = zeros-exact t (suc a) n .0 (r .1) in cc,
-      λ e. and (eqb (word t a) 0) (zeros t (suc a) n) (equal-holds (word t a) 0 (cc)) (zeros-exact t (suc a) n .1 (cc)))
+      λ e. together (eqb (word t a) 0) (zeros t (suc a) n) (equal-holds (word t a) 0 (cc)) (zeros-exact t (suc a) n .1 (cc)))
 
 -- the words of a list, then zeros
 padded-exact : (t : List ℕ) (a n g : ℕ) → g ≤ n → T (zeros t (a + g) (n - g)) ↔ (padded n (tabulate (word t) a g) ≡ tabulate (word t) a n)
@@ -102,7 +103,7 @@ padded-exact t a (suc n) (suc g) b =
 -- two tests and two facts, taken in another order
 regroup : (a b c x y : Bool) → T c ↔ (T x × T y) → T (a && b && c) ↔ (T (a && x) × T (b && y))
 regroup a b c x y r =
-    (λ h. let u = three a b c h in let v = r .0 (u .2) in (and a x (u .0) (v .0), and b y (u .1) (v .1)),
+    (λ h. let u = three a b c h in let v = r .0 (u .2) in (together a x (u .0) (v .0), together b y (u .1) (v .1)),
       λ h. let u = both a x (h .0) in let v = both b y (h .1) in all-three a b c (u .0) (v .0) (r .1 (u .1, v .1)))
 
 module _ (t : List ℕ) (p : ℕ) where
@@ -175,7 +176,7 @@ module _ (t : List ℕ) (p : ℕ) where
     no-guards-exact : T (eqb g 0 && zeros t a 8) ↔ ((0 ≡ g) × (padded 8 [] ≡ tabulate (process-word t p) 12 8))
     no-guards-exact =
         (λ h. let r = both (eqb g 0) (zeros t a 8) h in (sym (eqb→eq g 0 (r .0)), zeros-exact t a 8 .0 (r .1) ∙ sym guard-words),
-          λ h. and (eqb g 0) (zeros t a 8) (equal-holds g 0 (sym (h .0))) (zeros-exact t a 8 .1 (h .1 ∙ guard-words)))
+          λ h. together (eqb g 0) (zeros t a 8) (equal-holds g 0 (sym (h .0))) (zeros-exact t a 8 .1 (h .1 ∙ guard-words)))
 
     -- the guards, where the progress has some or none
     GuardsRead : Bool → Type 0

@@ -59,21 +59,21 @@ first-among l i b =
 
 -- a batch of the run queue is that of its head
 pub batch-is : (t : List ℕ) → 1 ≤ N-of t → (k i : ℕ) → i < length (view-core t k .run-queue)
-    → getD (view-core t k .run-queue) i [] ≡ batch-of t (K-of t) (N-of t) (first (getD (view-core t k .run-queue) i []))
+    → getD (view-core t k .run-queue) i [] ≡ batch-of t (first (getD (view-core t k .run-queue) i []))
 unfolding view-core
-batch-is t some k i b = member-back (batch-of t (K-of t) (N-of t)) (λ h. chain-first (next-of t (K-of t) (N-of t)) (N-of t) h some) (heads-of t k) i b
+batch-is t some k i b = member-back (batch-of t) (λ h. chain-first (next-of t) (N-of t) h some) (heads-of t k) i b
 
 -- so the batch that a process heads is read out from that process on
 pub batch-from : (t : List ℕ) → 1 ≤ N-of t → (k : ℕ) → k < K-of t → (i : ℕ) → i < length (core-of (view t) k .run-queue) → (p : ℕ)
-    → first (getD (core-of (view t) k .run-queue) i []) ≡ p → getD (core-of (view t) k .run-queue) i [] ≡ batch-of t (K-of t) (N-of t) p
+    → first (getD (core-of (view t) k .run-queue) i []) ≡ p → getD (core-of (view t) k .run-queue) i [] ≡ batch-of t p
 batch-from t some k b i c p e =
-    subst (λ (x : Core). i < length (x .run-queue) → first (getD (x .run-queue) i []) ≡ p → getD (x .run-queue) i [] ≡ batch-of t (K-of t) (N-of t) p)
-    (sym (core-of-view t k b)) (λ d f. batch-is t some k i d ∙ ap (batch-of t (K-of t) (N-of t)) f) c e
+    subst (λ (x : Core). i < length (x .run-queue) → first (getD (x .run-queue) i []) ≡ p → getD (x .run-queue) i [] ≡ batch-of t p)
+    (sym (core-of-view t k b)) (λ d f. batch-is t some k i d ∙ ap (batch-of t) f) c e
 
 module _ (t : List ℕ) (some : 1 ≤ N-of t) (cores : (k : ℕ) → k < K-of t → CoreFits t k) where
   -- the head of a batch of the run queue is one
   pub batch-fits : (k i : ℕ) → k < K-of t → i < length (view-core t k .run-queue)
-      → Batch t (K-of t) (N-of t) (first (getD (view-core t k .run-queue) i []))
+      → Batch t (first (getD (view-core t k .run-queue) i []))
   batch-fits k i b c =
       let l = view-core t k .run-queue in
       let h = first (getD l i []) in
@@ -133,7 +133,7 @@ module _ (t : List ℕ) (words : (i : ℕ) → getD t i 0 < 4294967296) (h : Fit
       (f .work .0) (le→leb (c .dispatch) 32 (f .dispatch))
       (all-holds not-empty (c .run-queue) [] (λ i e. let x = batch-fits t some (h .cores) k i b e in
         subst (λ (l : List ℕ). T (not-empty l)) (sym (batch-is t some k i e))
-        (linked-some (next-of t (K-of t) (N-of t)) _ (batch-of t (K-of t) (N-of t) _) (x .queue .linked) (x .low))))
+        (linked-some (next-of t) _ (batch-of t _) (x .queue .linked) (x .low))))
       (all-holds (all (is-process w)) (queues-of c) [] (λ i e. times-holds (is-process w) (getD (queues-of c) i []) (λ q m. process-here q (in-queue k b i e q m))))
 
   -- where a process stands, and that it has no links that it should not have

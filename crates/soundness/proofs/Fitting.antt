@@ -13,7 +13,7 @@ use Rattle.rules.specs.State.{wiring}
 use Rattle.rules.specs.SetUp.{room, sizes}
 use Rattle.rules.specs.Packing.{K-of, N-of, M-of, process-word, channel-word, view-core, view-channel, view}
 use Rattle.rules.specs.Soundness.{valid-channel}
-use Rattle.packing.proofs.Reflect.{both, four, three, and, within-means, all-from}
+use Rattle.packing.proofs.Reflect.{both, four, three, together, within-means, all-from}
 use Rattle.soundness.proofs.Tests.{equal-holds, all-four, zeros-mean, zeros-hold, from-holds}
 use Rattle.soundness.proofs.Walks.{Exact, Met, Apart}
 use Rattle.soundness.proofs.CoreWalks.{standing, load, CoreFits, cores-exact}
@@ -37,14 +37,19 @@ use Rattle.soundness.specs.Twin.{
   table-fits,
 }
 
--- the check of all processes and of all channels, as a test of each number
-processes-fit-is : (t : List ℕ) (K N M : ℕ) (met : List ℕ) (p n : ℕ) → processes-fit t K N M met p n ≡ all (process-fits t K N M met) (from p n)
-processes-fit-is t K N M met p zero = refl
-processes-fit-is t K N M met p (suc n) = ap (λ (b : Bool). process-fits t K N M met p && b) (processes-fit-is t K N M met (suc p) n)
+-- a check that goes from number to number is a test of each
+as-all : (check : ℕ → ℕ → Bool) (f : ℕ → Bool) → ((a : ℕ) → check a 0 ≡ true) → ((a n : ℕ) → check a (suc n) ≡ (f a && check (suc a) n))
+    → (a n : ℕ) → check a n ≡ all f (from a n)
+as-all check f none more a zero = none a
+as-all check f none more a (suc n) = more a n ∙ ap (λ (b : Bool). f a && b) (as-all check f none more (suc a) n)
 
+-- the check of all processes
+processes-fit-is : (t : List ℕ) (K N M : ℕ) (met : List ℕ) (p n : ℕ) → processes-fit t K N M met p n ≡ all (process-fits t K N M met) (from p n)
+processes-fit-is t K N M met = as-all (processes-fit t K N M met) (process-fits t K N M met) (λ a. refl) (λ a n. refl)
+
+-- the check of all channels
 channels-fit-is : (t : List ℕ) (K N c n : ℕ) → channels-fit t K N c n ≡ all (channel-fits t K N) (from c n)
-channels-fit-is t K N c zero = refl
-channels-fit-is t K N c (suc n) = ap (λ (b : Bool). channel-fits t K N c && b) (channels-fit-is t K N (suc c) n)
+channels-fit-is t K N = as-all (channels-fit t K N) (channel-fits t K N) (λ a. refl) (λ a n. refl)
 
 -- what a header that fits says
 pub record HeaderFits (t : List ℕ) : Type 0 where
@@ -124,7 +129,7 @@ module _ (t : List ℕ) (words : (i : ℕ) → getD t i 0 < 4294967296) (header 
   means-rest : (walk : Walk) → Exact CoresFit CoresMet walk → Fitting t → T (rest-fits t (K-of t) (N-of t) (M-of t) walk)
   means-rest flaw e h = absurd (e (λ k l b. h .cores k (omega arith), h .apart))
   means-rest (well met) e h =
-      and (processes-fit t (K-of t) (N-of t) (M-of t) met 1 (N-of t)) (channels-fit t (K-of t) (N-of t) 1 (M-of t))
+      together (processes-fit t (K-of t) (N-of t) (M-of t) met 1 (N-of t)) (channels-fit t (K-of t) (N-of t) 1 (M-of t))
       (rw processes-fit-is (from-holds (process-fits t (K-of t) (N-of t) (M-of t) met) 1 (N-of t) (λ p l b. process p l (omega arith))))
       (rw channels-fit-is (from-holds (channel-fits t (K-of t) (N-of t)) 1 (M-of t) (λ c l b. subst T (channel-is c) (h .channels c l (omega arith)))))
     where

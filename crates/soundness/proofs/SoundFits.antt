@@ -37,10 +37,11 @@ use Rattle.rules.specs.Packing.{
 }
 use Rattle.rules.specs.Soundness.{runs-it, valid-progress, fits, on-cores, in-queues, stands, valid-process, valid-work, valid-core, valid-channel, valid}
 use Rattle.packing.proofs.Blocks.{length-work-words, length-progress-words, second-part, pack-holds}
+use Rattle.packing.proofs.Tabulate.{tabulate-back}
 use Rattle.packing.proofs.Reflect.{both, four, within-means, all-at, Valid, valid-means}
 use Rattle.packing.proofs.Sums.{Among, positive-term}
 use Rattle.packing.proofs.Chains.{queue-of, queue-among, next-follows, heads-among, batch-follows, heads-in-core, queued-once, queued-range}
-use Rattle.packing.proofs.Reading.{tabulate-back, state-words, link-words, state-word, progress-word, link-word}
+use Rattle.packing.proofs.Reading.{state-words, link-words, state-word, progress-word, link-word}
 use Rattle.packing.proofs.ViewCore.{queue-words, work-word, queue-word}
 use Rattle.soundness.proofs.Walks.{Apart, Linked, Queue, next-of, batch-of, batch-behind, Batch, Heads}
 use Rattle.soundness.proofs.CoreWalks.{standing, load, CoreFits, chain-first, heads-of, heads-are}
@@ -53,17 +54,20 @@ use Rattle.soundness.proofs.FitsValid.{batch-from, heads-below}
 use Rattle.soundness.proofs.Tests.{bit-positive}
 use Rattle.soundness.specs.Twin.{word, meeting-fits, core-fits}
 
--- words that are those of a list
+-- words that are those of a list of this length
 words-block : (f : ℕ → ℕ) (a n : ℕ) (l : List ℕ) → length l ≡ n → ((i : ℕ) → i < n → f (a + i) ≡ getD l i 0) → l ≡ tabulate f a n
-words-block f a n l size e =
-    sym (tabulate-back f a 0 l (λ i b. e i (subst (λ (m : ℕ). i < m) size b))) ∙ ap (tabulate f a) size
+words-block f a n l size e = sym (tabulate-back f a n 0 l (sym size) (λ i b. e i (omega arith)))
+
+-- a test of two numbers says what they add up to
+counted : (cores queues a b : ℕ) → a + b ≤ 1 → T (eqb cores a && eqb queues b) → cores + queues ≤ 1
+counted cores queues a b l h = let r = both (eqb cores a) (eqb queues b) h in omega (arith, eqb→eq cores a (r .0), eqb→eq queues b (r .1))
 
 -- a process that stands in its place does so once
 stands-total : (cores queues : ℕ) (y : Place) → T (stands cores queues y) → cores + queues ≤ 1
-stands-total cores queues running h = let r = both (eqb cores 1) (eqb queues 0) h in omega (arith, eqb→eq cores 1 (r .0), eqb→eq queues 0 (r .1))
-stands-total cores queues queued h = let r = both (eqb cores 0) (eqb queues 1) h in omega (arith, eqb→eq cores 0 (r .0), eqb→eq queues 1 (r .1))
-stands-total cores queues asleep h = let r = both (eqb cores 0) (eqb queues 0) h in omega (arith, eqb→eq cores 0 (r .0), eqb→eq queues 0 (r .1))
-stands-total cores queues ended h = let r = both (eqb cores 0) (eqb queues 0) h in omega (arith, eqb→eq cores 0 (r .0), eqb→eq queues 0 (r .1))
+stands-total cores queues running h = counted cores queues 1 0 (omega arith) h
+stands-total cores queues queued h = counted cores queues 0 1 (omega arith) h
+stands-total cores queues asleep h = counted cores queues 0 0 (omega arith) h
+stands-total cores queues ended h = counted cores queues 0 0 (omega arith) h
 
 -- the process that a valid core runs is one of the processes
 runs-range : (w : Wiring) (q : ℕ) (x : Work) → T (valid-work w x) → 1 ≤ runs-it q x → (1 ≤ q) × (q ≤ w .N)
@@ -143,40 +147,40 @@ module _ (t : List ℕ) (good : T (valid (view t))) (packed : pack (view t) ≡ 
         }
 
     -- its queues are linked
-    queue-linked : (i : ℕ) → i < length (queues-of (core-of s k)) → Linked (next-of t (K-of t) (N-of t)) (first (queue-of s k i)) (queue-of s k i)
+    queue-linked : (i : ℕ) → i < length (queues-of (core-of s k)) → Linked (next-of t) (first (queue-of s k i)) (queue-of s k i)
     queue-linked i d =
         let a = queue-among s v k inside i d in
-        linked-back (length (s .processes)) (next-of t (K-of t) (N-of t)) (queue-of s k i) a
+        linked-back (length (s .processes)) (next-of t) (queue-of s k i) a
         (λ p m. let r = a .range p m in links p (r .0) (r .1) 0 (lit< tt) ∙ next-follows s v k inside i d p m)
 
     -- a queue that is read out from p on is linked from p on
-    read-linked : (p : ℕ) (l : List ℕ) → l ≡ batch-of t (K-of t) (N-of t) p → Linked (next-of t (K-of t) (N-of t)) (first l) l
-        → Linked (next-of t (K-of t) (N-of t)) p (batch-of t (K-of t) (N-of t) p)
+    read-linked : (p : ℕ) (l : List ℕ) → l ≡ batch-of t p → Linked (next-of t) (first l) l
+        → Linked (next-of t) p (batch-of t p)
     read-linked p l e h =
-        subst (λ (n : ℕ). Linked (next-of t (K-of t) (N-of t)) n (batch-of t (K-of t) (N-of t) p))
-        (chain-first (next-of t (K-of t) (N-of t)) (N-of t) p some)
-        (subst (λ (m : List ℕ). Linked (next-of t (K-of t) (N-of t)) (first m) m) e h)
+        subst (λ (n : ℕ). Linked (next-of t) n (batch-of t p))
+        (chain-first (next-of t) (N-of t) p some)
+        (subst (λ (m : List ℕ). Linked (next-of t) (first m) m) e h)
 
     heads-eq : heads (core-of s k .run-queue) ≡ heads-of t k
     heads-eq = ap (λ (x : Core). heads (x .run-queue)) core ∙ heads-are t some k
 
     -- and so are the heads of its batches
-    heads-linked : Linked (batch-behind t (K-of t) (N-of t)) (core-word t k 8) (heads-of t k)
+    heads-linked : Linked (batch-behind t) (core-word t k 8) (heads-of t k)
     heads-linked =
         let a = heads-among s v k inside in
         let l = heads (core-of s k .run-queue) in
-        let from-first : Linked (batch-behind t (K-of t) (N-of t)) (first l) l =
-          linked-back (length (s .processes)) (batch-behind t (K-of t) (N-of t)) l a
+        let from-first : Linked (batch-behind t) (first l) l =
+          linked-back (length (s .processes)) (batch-behind t) l a
           (λ p m. let r = a .range p m in links p (r .0) (r .1) 3 (lit< tt) ∙ batch-follows s v k inside p m) in
-        let at-first : first (heads-of t k) ≡ core-word t k 8 = chain-first (batch-behind t (K-of t) (N-of t)) (N-of t) (core-word t k 8) some in
-        subst (λ (n : ℕ). Linked (batch-behind t (K-of t) (N-of t)) n (heads-of t k)) at-first
-        (subst (λ (m : List ℕ). Linked (batch-behind t (K-of t) (N-of t)) (first m) m) heads-eq from-first)
+        let at-first : first (heads-of t k) ≡ core-word t k 8 = chain-first (batch-behind t) (N-of t) (core-word t k 8) some in
+        subst (λ (n : ℕ). Linked (batch-behind t) n (heads-of t k)) at-first
+        (subst (λ (m : List ℕ). Linked (batch-behind t) (first m) m) heads-eq from-first)
 
     -- a head's batch
-    batch-here : (p : ℕ) → 1 ≤ times p (heads-of t k) → Batch t (K-of t) (N-of t) p
+    batch-here : (p : ℕ) → 1 ≤ times p (heads-of t k) → Batch t p
     batch-here p m =
         let batches = core-of s k .run-queue in
-        let batch = batch-of t (K-of t) (N-of t) p in
+        let batch = batch-of t p in
         let m′ : 1 ≤ times p (heads batches) = omega (arith, ap (times p) heads-eq) in
         let r = heads-among s v k inside .range p m′ in
         let q = head-found batches p m′ in

@@ -8,7 +8,7 @@ use native.Mathlib.Nat.{add-zero}
 use lib.Dec.{T, eqb, leb, eqb→eq, leb→le, le→leb, eqb-refl}
 use lib.ListN.{length, getD}
 use Rattle.rules.specs.Lists.{within, all, from, bit, times}
-use Rattle.packing.proofs.Reflect.{both, five, and}
+use Rattle.packing.proofs.Reflect.{both, five, together}
 use Rattle.packing.proofs.Sums.{head-stands}
 use Rattle.soundness.specs.Twin.{word, zeros}
 
@@ -27,15 +27,15 @@ equal-holds a b e = subst (λ (n : ℕ). T (eqb a n)) e (eqb-refl a)
 
 -- a number between two others
 pub within-holds : (low high n : ℕ) → low ≤ n → n ≤ high → T (within low high n)
-within-holds low high n l b = and (leb low n) (leb n high) (le→leb low n l) (le→leb n high b)
+within-holds low high n l b = together (leb low n) (leb n high) (le→leb low n l) (le→leb n high b)
 
 -- three tests
 pub all-three : (a b c : Bool) → T a → T b → T c → T (a && b && c)
-all-three a b c x y z = and (a && b) c (and a b x y) z
+all-three a b c x y z = together (a && b) c (together a b x y) z
 
 -- four tests
 pub all-four : (a b c d : Bool) → T a → T b → T c → T d → T (a && b && c && d)
-all-four a b c d x y z u = and (a && b && c) d (all-three a b c x y z) u
+all-four a b c d x y z u = together (a && b && c) d (all-three a b c x y z) u
 
 -- a test with another that is true
 pub and-true : (a : Bool) → (a && true) ≡ a
@@ -52,7 +52,7 @@ zeros-mean t a (suc n) h (suc i) b =
 pub zeros-hold : (t : List ℕ) (a n : ℕ) → ((i : ℕ) → i < n → word t (a + i) ≡ 0) → T (zeros t a n)
 zeros-hold t a zero e = tt
 zeros-hold t a (suc n) e =
-    and (eqb (word t a) 0) (zeros t (suc a) n) (equal-holds (word t a) 0 (ap (word t) (sym (add-zero a)) ∙ e 0 (omega arith)))
+    together (eqb (word t a) 0) (zeros t (suc a) n) (equal-holds (word t a) 0 (ap (word t) (sym (add-zero a)) ∙ e 0 (omega arith)))
     (zeros-hold t (suc a) n (λ i b. ap (word t) (omega arith) ∙ e (suc i) (omega arith)))
 
 -- a number that is 0 or 1 is that of a test
@@ -72,28 +72,28 @@ and-as false b b′ e = refl
 
 -- five tests, six tests
 pub all-five : (a b c d e : Bool) → T a → T b → T c → T d → T e → T (a && b && c && d && e)
-all-five a b c d e x y z u v = and (a && b && c && d) e (all-four a b c d x y z u) v
+all-five a b c d e x y z u v = together (a && b && c && d) e (all-four a b c d x y z u) v
 
 pub six : (a b c d e f : Bool) → T (a && b && c && d && e && f) → T a × T b × T c × T d × T e × T f
 six a b c d e f h = let t = both (a && b && c && d && e) f h in let u = five a b c d e (t .0) in (u .0, u .1, u .2, u .3, u .4, t .1)
 
 pub all-six : (a b c d e f : Bool) → T a → T b → T c → T d → T e → T f → T (a && b && c && d && e && f)
-all-six a b c d e f x y z u v w = and (a && b && c && d && e) f (all-five a b c d e x y z u v) w
+all-six a b c d e f x y z u v w = together (a && b && c && d && e) f (all-five a b c d e x y z u v) w
 
 -- a test that holds of a, a + 1, .. (n of them)
 pub from-holds : (f : ℕ → Bool) (a n : ℕ) → ((i : ℕ) → a ≤ i → i < a + n → T (f i)) → T (all f (from a n))
 from-holds f a zero h = tt
-from-holds f a (suc n) h = and (f a) (all f (from (suc a) n)) (h a (omega arith) (omega arith)) (from-holds f (suc a) n (λ i l b. h i (omega arith) (omega arith)))
+from-holds f a (suc n) h = together (f a) (all f (from (suc a) n)) (h a (omega arith) (omega arith)) (from-holds f (suc a) n (λ i l b. h i (omega arith) (omega arith)))
 
 -- a test that holds of each member of a list
 pub all-holds : {A : Type 0} (f : A → Bool) (l : List A) (d : A) → ((i : ℕ) → i < length l → T (f (getD l i d))) → T (all f l)
 all-holds f [] d h = tt
-all-holds f (x ∷ xs) d h = and (f x) (all f xs) (h 0 (omega arith)) (all-holds f xs d (λ i b. h (suc i) (omega arith)))
+all-holds f (x ∷ xs) d h = together (f x) (all f xs) (h 0 (omega arith)) (all-holds f xs d (λ i b. h (suc i) (omega arith)))
 
 -- the same for numbers that stand in a list
 pub times-holds : (f : ℕ → Bool) (l : List ℕ) → ((p : ℕ) → 1 ≤ times p l → T (f p)) → T (all f l)
 times-holds f [] h = tt
-times-holds f (x ∷ xs) h = and (f x) (all f xs) (h x (omega (arith, head-stands x xs))) (times-holds f xs (λ p b. h p (omega arith)))
+times-holds f (x ∷ xs) h = together (f x) (all f xs) (h x (omega (arith, head-stands x xs))) (times-holds f xs (λ p b. h p (omega arith)))
 
 -- a test whose number is not 0 holds
 pub bit-positive : (t : Bool) → 1 ≤ bit t → T t

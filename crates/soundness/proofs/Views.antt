@@ -12,6 +12,7 @@ use Rattle.rules.specs.State.{Way, sending, receiving, Core, Process, Ends, Cha
 use Rattle.rules.specs.Items.{no-core, no-process, no-channel, core-of, process-of, channel-of}
 use Rattle.rules.specs.Packing.{K-of, N-of, M-of, channel-word, view-core, view-process, view-channel, view}
 use Rattle.rules.specs.Soundness.{own-end}
+use Rattle.packing.proofs.Tabulate.{length-tabulate, tabulate-at}
 use Rattle.packing.proofs.Reflect.{within-means}
 use Rattle.soundness.proofs.Tests.{and-as}
 use Rattle.soundness.specs.Twin.{end-fits}
@@ -19,20 +20,10 @@ use Rattle.soundness.specs.Twin.{end-fits}
 -- Lists built number by number
 
 module _ {A : Type 0} where
-  pub length-tabulate : (f : ℕ → A) (a n : ℕ) → length (tabulate f a n) ≡ n
-  length-tabulate f a zero = refl
-  length-tabulate f a (suc n) = ap suc (length-tabulate f (suc a) n)
-
-  -- the i-th
-  pub tabulate-at : (f : ℕ → A) (a n i : ℕ) (d : A) → i < n → getD (tabulate f a n) i d ≡ f (a + i)
-  tabulate-at f a zero i d b = absurd (omega arith)
-  tabulate-at f a (suc n) zero d b = ap f (sym (add-zero a))
-  tabulate-at f a (suc n) (suc i) d b = tabulate-at f (suc a) n i d (omega arith) ∙ ap f (omega arith)
-
   -- the n-th, counted from 1
   pub tabulate-nth-at : (f : ℕ → A) (n i : ℕ) (d : A) → 1 ≤ i → i ≤ n → nth (tabulate f 1 n) i d ≡ f i
   tabulate-nth-at f n zero d l b = absurd (omega arith)
-  tabulate-nth-at f n (suc i) d l b = tabulate-at f 1 n i d b ∙ ap f (omega arith)
+  tabulate-nth-at f n (suc i) d l b = tabulate-at f 1 n d i b ∙ ap f (omega arith)
 
   -- the first m
   pub take-tabulate : (f : ℕ → A) (a n m : ℕ) → m ≤ n → take m (tabulate f a n) ≡ tabulate f a m
@@ -72,7 +63,7 @@ module _ (t : List ℕ) where
   -- a core, a process, a channel
   pub core-of-view : (k : ℕ) → k < K-of t → core-of (view t) k ≡ view-core t k
   unfolding view
-  core-of-view k b = tabulate-at (view-core t) 0 (K-of t) k no-core b ∙ ap (view-core t) (zero-add k)
+  core-of-view k b = tabulate-at (view-core t) 0 (K-of t) no-core k b ∙ ap (view-core t) (zero-add k)
 
   pub process-of-view : (p : ℕ) → 1 ≤ p → p ≤ N-of t → process-of (view t) p ≡ view-process t p
   unfolding view

@@ -10,8 +10,8 @@ use lib.ListN.{length, getD, set, length-set}
 use lib.Seq.{getD-set-same, getD-set-other}
 use borrow.Author.Tests.{eqb-true, eqb-false, leb-true, leb-false, eq-eqb, ne-eqb}
 use Rattle.rules.specs.Lists.{if_then_else_, within, total, bit, times}
-use Rattle.rules.specs.Packing.{core-at, process-at, chain}
-use Rattle.packing.proofs.Reflect.{both, three, and, within-means}
+use Rattle.rules.specs.Packing.{K-of, N-of, process-at, core-word, process-word, chain}
+use Rattle.packing.proofs.Reflect.{both, three, together, within-means}
 use Rattle.packing.proofs.Sums.{head-stands}
 use Rattle.soundness.proofs.Tests.{equal-holds, within-holds, all-three}
 use Rattle.soundness.specs.Twin.{word, fresh, Walk, flaw, well, and-then, chain-walk, batch-walk}
@@ -87,7 +87,7 @@ module _ (N : ℕ) (c : ℕ → ℕ) (met : List ℕ) (agrees : Met N c met) whe
 
   pub means-fresh : (p : ℕ) → 1 ≤ p → p ≤ N → c p ≡ 0 → T (fresh N met p)
   means-fresh p l b z =
-      and (within 1 N p) (eqb (getD met p 0) 0) (within-holds 1 N p l b) (equal-holds (getD met p 0) 0 (agrees .each p l b ∙ z))
+      together (within 1 N p) (eqb (getD met p 0) 0) (within-holds 1 N p l b) (equal-holds (getD met p 0) 0 (agrees .each p l b ∙ z))
 
   -- another number for one process
   pub met-set : (c′ : ℕ → ℕ) (p v : ℕ) → 1 ≤ p → p ≤ N → c′ p ≡ v → ((q : ℕ) → (p ≡ q → ⊥) → c′ q ≡ c q) → Met N c′ (set met p v)
@@ -159,9 +159,17 @@ met-one N c met agrees v p r =
     met-set N c met agrees (λ q. c q + v * one-more p q) p v (r .0) (r .1) (rw (one-here p) (omega (arith, r .2)))
     (λ q ne. rw (one-elsewhere p q ne) (omega arith))
 
-module _ (t : List ℕ) (K N : ℕ) where
+module _ (t : List ℕ) where
+  -- the table's number of cores and of processes
+  abbrev K : ℕ
+  K = K-of t
+
+  abbrev N : ℕ
+  N = N-of t
+
+  -- who follows p in its queue
   abbrev pub next-of : ℕ → ℕ
-  next-of p = word t (process-at K p 20)
+  next-of p = process-word t p 20
 
   module _ (a : ℕ) where
     abbrev pub QueueFrom : ℕ → (ℕ → ℕ) → ℕ → ℕ → ℕ → Type 0
@@ -243,9 +251,11 @@ module _ (t : List ℕ) (K N : ℕ) where
 
   -- Batches
 
+  -- the head of the batch that follows that of h
   abbrev pub batch-behind : ℕ → ℕ
-  batch-behind h = word t (process-at K h 23)
+  batch-behind h = process-word t h 23
 
+  -- the batch that h heads
   abbrev pub batch-of : ℕ → List ℕ
   batch-of h = chain next-of N h
 
@@ -253,7 +263,7 @@ module _ (t : List ℕ) (K N : ℕ) where
   pub record Batch (h : ℕ) : Type 0 where
     pub low : 1 ≤ h
     pub high : h ≤ N
-    pub queue : Queue next-of (word t (process-at K h 21)) (word t (process-at K h 21 + 1)) h 0 0 (batch-of h)
+    pub queue : Queue next-of (process-word t h 21) (word t (process-at K h 21 + 1)) h 0 0 (batch-of h)
 
   -- the heads of a core's batches, the last of them counted on from the one given
   pub record Heads (at-last head prev : ℕ) (l : List ℕ) : Type 0 where
@@ -264,25 +274,25 @@ module _ (t : List ℕ) (K N : ℕ) where
   module _ (k : ℕ) where
     abbrev pub HeadsFrom : ℕ → (ℕ → ℕ) → ℕ → ℕ → Type 0
     HeadsFrom n c head prev =
-        let l = chain batch-behind n head in Heads (word t (core-at k 9)) head prev l × Apart N c (λ q. total (times q) (map batch-of l))
+        let l = chain batch-behind n head in Heads (core-word t k 9) head prev l × Apart N c (λ q. total (times q) (map batch-of l))
 
     abbrev pub MetHeads : ℕ → (ℕ → ℕ) → ℕ → List ℕ → Type 0
     MetHeads n c head = let l = chain batch-behind n head in Met N (λ q. c q + 2 * total (times q) (map batch-of l) + times q l)
 
     -- the end of the batches is found exactly
     heads-end-exact : (met : List ℕ) (c : ℕ → ℕ) (head prev : ℕ) → Met N c met
-        → Exact (HeadsFrom 0 c head prev) (MetHeads 0 c head) (if eqb head 0 && eqb (word t (core-at k 9)) prev then well met else flaw)
+        → Exact (HeadsFrom 0 c head prev) (MetHeads 0 c head) (if eqb head 0 && eqb (core-word t k 9) prev then well met else flaw)
     heads-end-exact met c head prev agrees =
-        exact-if (HeadsFrom 0 c head prev) (MetHeads 0 c head) (eqb head 0 && eqb (word t (core-at k 9)) prev) (well met) need rest
+        exact-if (HeadsFrom 0 c head prev) (MetHeads 0 c head) (eqb head 0 && eqb (core-word t k 9) prev) (well met) need rest
       where
-        need : HeadsFrom 0 c head prev → T (eqb head 0 && eqb (word t (core-at k 9)) prev)
+        need : HeadsFrom 0 c head prev → T (eqb head 0 && eqb (core-word t k 9) prev)
         need h =
-            and (eqb head 0) (eqb (word t (core-at k 9)) prev) (equal-holds head 0 (h .0 .linked)) (equal-holds (word t (core-at k 9)) prev (h .0 .last-is))
+            together (eqb head 0) (eqb (core-word t k 9) prev) (equal-holds head 0 (h .0 .linked)) (equal-holds (core-word t k 9) prev (h .0 .last-is))
 
-        rest : T (eqb head 0 && eqb (word t (core-at k 9)) prev) → HeadsFrom 0 c head prev × MetHeads 0 c head met
+        rest : T (eqb head 0 && eqb (core-word t k 9) prev) → HeadsFrom 0 c head prev × MetHeads 0 c head met
         rest h =
-            let r = both (eqb head 0) (eqb (word t (core-at k 9)) prev) h in
-            ((record { linked = eqb→eq head 0 (r .0); last-is = eqb→eq (word t (core-at k 9)) prev (r .1); each = λ q b. absurd (omega arith) },
+            let r = both (eqb head 0) (eqb (core-word t k 9) prev) h in
+            ((record { linked = eqb→eq head 0 (r .0); last-is = eqb→eq (core-word t k 9) prev (r .1); each = λ q b. absurd (omega arith) },
               λ q b. absurd (omega arith)),
               met-as N c _ met (λ q. omega arith) agrees)
 
