@@ -1,0 +1,76 @@
+-- The words of a core that belong to no queue fit exactly where they are those of a valid core.
+use Prim.Native.Nat.{ℕ, zero, suc, _+_, _≤_, _<_}
+use mathlib.Core.Path.{_≡_, refl, sym, ap, _∙_, subst}
+use mathlib.Core.Bool.{Bool, true, false, _&&_}
+use mathlib.Core.List.{List, [], _∷_}
+use native.Mathlib.Omega.{arith}
+use lib.Dec.{T, eqb, leb, eqb→eq, leb→le, le→leb, eqb·suc-zero, eqb-refl}
+use lib.ListN.{getD}
+use Rattle.rules.specs.Lists.{if_then_else_, within, bit}
+use Rattle.rules.specs.State.{Work, Wiring}
+use Rattle.rules.specs.Packing.{work-words, N-of, core-at, core-word, work-from}
+use Rattle.rules.specs.Soundness.{is-process, valid-work}
+use Rattle.packing.proofs.Reflect.{both, three, four, together, within-means}
+use Rattle.soundness.proofs.Tests.{equal-holds, within-holds, all-three, all-four, zeros-mean, zeros-hold, bit-means, bit-holds}
+use Rattle.soundness.specs.Twin.{word, zeros, task-fits, core-fits}
+
+-- the running process, the task and its process fit
+abbrev work-fits : ℕ → ℕ → ℕ → ℕ → Bool
+work-fits N p task q = if eqb p 0 then task-fits N task q else (leb p N && eqb task 0 && eqb q 0)
+
+-- the work that is read out of three words is valid, and these are its words
+abbrev pub GoodWork : Wiring → ℕ → ℕ → ℕ → Type 0
+GoodWork w p task q = T (valid-work w (work-from p task q)) × (work-words (work-from p task q) ≡ p ∷ task ∷ q ∷ [])
+
+module _ (w : Wiring) where
+  work-means : (p task q : ℕ) → T (work-fits (w .N) p task q) → GoodWork w p task q
+  work-means zero zero q h = (tt, let e : q ≡ 0 = eqb→eq q 0 h in cc)
+  work-means zero (suc zero) q h = (h, refl)
+  work-means zero (suc (suc zero)) q h = (h, refl)
+  work-means zero (suc (suc (suc task))) q h =
+      let g : T (leb (suc (suc (suc task))) 2 && within 1 (w .N) q) = rw eqb·suc-zero at h in
+      absurd (omega (arith, leb→le (suc (suc (suc task))) 2 (both (leb (suc (suc (suc task))) 2) (within 1 (w .N) q) g .0)))
+  work-means (suc p) task q h =
+      let g : T (leb (suc p) (w .N) && eqb task 0 && eqb q 0) = rw eqb·suc-zero at h in
+      let r = three (leb (suc p) (w .N)) (eqb task 0) (eqb q 0) g in
+      let no-task : task ≡ 0 = eqb→eq task 0 (r .1) in
+      let nobody : q ≡ 0 = eqb→eq q 0 (r .2) in
+      rw eqb·suc-zero (within-holds 1 (w .N) (suc p) (omega arith) (leb→le (suc p) (w .N) (r .0)), (cc))
+
+  means-work : (p task q : ℕ) → GoodWork w p task q → T (work-fits (w .N) p task q)
+  means-work zero zero q h = equal-holds q 0 (let e = h .1 in cc)
+  means-work zero (suc zero) q h = h .0
+  means-work zero (suc (suc zero)) q h = h .0
+  means-work zero (suc (suc (suc task))) q h = let e = h .1 in let z : _≡_ {A = ℕ} 0 (suc (suc (suc task))) = cc in absurd (omega arith)
+  means-work (suc p) task q h =
+      let g : T (is-process w (suc p)) × (suc p ∷ 0 ∷ 0 ∷ [] ≡ suc p ∷ task ∷ q ∷ []) = rw eqb·suc-zero at h in
+      let e = g .1 in
+      rw eqb·suc-zero
+      (all-three (leb (suc p) (w .N)) (eqb task 0) (eqb q 0) (both (leb 1 (suc p)) (leb (suc p) (w .N)) (g .0) .1)
+      (equal-holds task 0 (cc)) (equal-holds q 0 (cc)))
+
+-- the words of a core that belong to no queue are those of a valid core
+pub record FlatCore (w : Wiring) (t : List ℕ) (k : ℕ) : Type 0 where
+  pub work : GoodWork w (core-word t k 0) (core-word t k 1) (core-word t k 2)
+  pub dispatch : core-word t k 6 ≤ 32
+  pub mark : bit (eqb (core-word t k 7) 1) ≡ core-word t k 7
+  pub unused : (f : ℕ) → f < 6 → word t (core-at k 10 + f) ≡ 0
+
+module _ (w : Wiring) (t : List ℕ) (k : ℕ) where
+  pub core-fits-means : T (core-fits t (w .N) k) → FlatCore w t k
+  core-fits-means h =
+      let r = four (work-fits (w .N) (core-word t k 0) (core-word t k 1) (core-word t k 2)) (leb (core-word t k 6) 32) (leb (core-word t k 7) 1)
+                (zeros t (core-at k 10) 6) h in
+      record {
+        work = work-means w (core-word t k 0) (core-word t k 1) (core-word t k 2) (r .0);
+        dispatch = leb→le (core-word t k 6) 32 (r .1);
+        mark = bit-means (core-word t k 7) (r .2);
+        unused = zeros-mean t (core-at k 10) 6 (r .3);
+      }
+
+  pub means-core-fits : FlatCore w t k → T (core-fits t (w .N) k)
+  means-core-fits h =
+      all-four (work-fits (w .N) (core-word t k 0) (core-word t k 1) (core-word t k 2)) (leb (core-word t k 6) 32) (leb (core-word t k 7) 1)
+      (zeros t (core-at k 10) 6)
+      (means-work w (core-word t k 0) (core-word t k 1) (core-word t k 2) (h .work)) (le→leb (core-word t k 6) 32 (h .dispatch))
+      (bit-holds (eqb (core-word t k 7) 1) (core-word t k 7) (h .mark)) (zeros-hold t (core-at k 10) 6 (h .unused))

@@ -1,0 +1,208 @@
+-- A table that fits holds the words of the state that is read out of it.
+use Prim.Native.Nat.{ℕ, zero, suc, _+_, _*_, _≤_, _<_}
+use mathlib.Core.Path.{_≡_, refl, sym, ap, _∙_, subst}
+use mathlib.Core.Bool.{Bool, true, false, _&&_}
+use mathlib.Core.List.{List, [], _∷_, _++_, map}
+use native.Mathlib.Omega.{arith}
+use native.Mathlib.Nat.{zero-add, add-zero}
+use lib.Dec.{T, leb, eqb, lit<, eqb→eq}
+use lib.ListN.{length, getD}
+use borrow.Author.Tests.{leb-true, leb-false, eqb-true, eqb-false}
+use Rattle.rules.specs.Lists.{within, total, tabulate, times, first, last, follows, bit}
+use Rattle.rules.specs.State.{Core, Process, Channel, queues-of, State}
+use Rattle.rules.specs.Items.{core-of, process-of, channel-of, no-core}
+use Rattle.rules.specs.SetUp.{room}
+use Rattle.rules.specs.Packing.{
+  heads,
+  work-words,
+  core-words,
+  progress-words,
+  next-link,
+  head-link,
+  batch-link,
+  process-words,
+  channel-words,
+  header-words,
+  K-of,
+  N-of,
+  M-of,
+  core-at,
+  process-at,
+  channel-at,
+  core-word,
+  process-word,
+  channel-word,
+  view-core,
+  view-process,
+  view-channel,
+  view,
+}
+use Rattle.rules.specs.Soundness.{in-queues}
+use Rattle.packing.proofs.Regions.{Holds}
+use Rattle.packing.proofs.Blocks.{dims, words-of}
+use Rattle.packing.proofs.Tabulate.{tabulate-at}
+use Rattle.packing.proofs.Reflect.{Valid, valid-means}
+use Rattle.packing.proofs.Sums.{positive-term, total-map}
+use Rattle.packing.proofs.Chains.{next-follows, batch-follows}
+use Rattle.packing.proofs.Reading.{state-words, link-words}
+use Rattle.packing.proofs.ViewCore.{queue-words}
+use Rattle.soundness.proofs.Walks.{next-of, batch-of, batch-behind, Batch}
+use Rattle.soundness.proofs.CoreWalks.{CoreFits, chain-first, heads-of, heads-are}
+use Rattle.soundness.proofs.Views.{cores-of-view, processes-of-view, channels-of-view, core-of-view, process-of-view, channel-of-view}
+use Rattle.soundness.proofs.FitsChannel.{channel-words-back}
+use Rattle.soundness.proofs.FitsCore.{FlatCore}
+use Rattle.soundness.proofs.FitsProcess.{FlatProcess, NoLinks}
+use Rattle.soundness.proofs.Fitting.{HeaderFits, header-processes, Fitting}
+use Rattle.soundness.proofs.Links.{linked-follows, last-from-zero, heads-in, no-next, no-head-link, no-batch-link, head-found, head-keeps}
+use Rattle.soundness.proofs.FitsValid.{batch-is, batch-from, batch-fits, heads-below, standing-once, flat-core, stands-linked, fits-valid}
+use Rattle.soundness.specs.Twin.{word}
+
+-- a word of a block whose words are these
+block-word : (f : ℕ → ℕ) (n i : ℕ) (l : List ℕ) → l ≡ tabulate f 0 n → i < n → f i ≡ getD l i 0
+block-word f n i l e b = sym (ap (λ (m : List ℕ). getD m i 0) e ∙ tabulate-at f 0 n 0 i b ∙ ap f (zero-add i))
+
+module _ (t : List ℕ) (words : (i : ℕ) → getD t i 0 < 4294967296) (h : Fitting t) where
+  abbrev s : State
+  s = view t
+
+  some : 1 ≤ N-of t
+  some = header-processes t (h .header) .0
+
+  v : Valid s
+  v = valid-means s (fits-valid t words h)
+
+  -- a core of the state
+  inside : (k : ℕ) → k < length (s .cores) → k < K-of t
+  inside k b = subst (λ (n : ℕ). k < n) (cores-of-view t) b
+
+  -- what follows a process in a queue is its link
+  queue-follows : (k : ℕ) → k < K-of t → (i : ℕ) → i < length (queues-of (view-core t k)) → (p : ℕ) → 1 ≤ times p (getD (queues-of (view-core t k)) i [])
+      → follows p (getD (queues-of (view-core t k)) i []) ≡ process-word t p 20
+  queue-follows k b zero c p m =
+      linked-follows (next-of t) (core-word t k 3) (view-core t k .active) (h .cores k b .active .linked) p m
+  queue-follows k b (suc i) c p m =
+      let l = getD (view-core t k .run-queue) i [] in
+      let e : l ≡ batch-of t (first l) = batch-is t some k i (omega arith) in
+      let x = batch-fits t some (h .cores) k i b (omega arith) in
+      ap (follows p) e
+      ∙ linked-follows (next-of t) (first l) (batch-of t (first l)) (x .queue .linked) p (omega (arith, ap (times p) e))
+
+  module _ (p : ℕ) (l : 1 ≤ p) (b : p ≤ N-of t) where
+    -- next
+    next-is : next-link s p ≡ process-word t p 20
+    unfolding in-queues
+    next-is = cases (leb 1 (in-queues s p)) refl
+      where
+        found : 1 ≤ in-queues s p → next-link s p ≡ process-word t p 20
+        found m =
+            let c = positive-term (λ (c : Core). total (times p) (queues-of c)) (s .cores) no-core m in
+            let k = c .0 in
+            let q = positive-term (times p) (queues-of (core-of s k)) [] (c .2) in
+            next-follows s v k (c .1) (q .0) (q .1) p (q .2)
+            ∙ subst (λ (x : Core). (i : ℕ) → i < length (queues-of x) → 1 ≤ times p (getD (queues-of x) i []) → follows p (getD (queues-of x) i []) ≡ process-word t p 20)
+            (sym (core-of-view t k (inside k (c .1)))) (λ i d m. queue-follows k (inside k (c .1)) i d p m) (q .0) (q .1) (q .2)
+
+        cases : (y : Bool) → leb 1 (in-queues s p) ≡ y → next-link s p ≡ process-word t p 20
+        cases true e = found (leb-true 1 (in-queues s p) e)
+        cases false e =
+            let none : in-queues s p ≡ 0 = omega (arith, leb-false 1 (in-queues s p) e) in
+            no-next s p none ∙ sym (stands-linked t words h p l b .1 .next none)
+
+    -- the words of a batch's head
+    abbrev HeadWords : Type 0
+    HeadWords = (head-link last s p ≡ process-word t p 21) × (head-link length s p ≡ process-word t p 22) × (batch-link s p ≡ process-word t p 23)
+
+    heads-found : 1 ≤ heads-in s p → HeadWords
+    unfolding heads-in
+    heads-found m =
+        let c = positive-term (λ (c : Core). times p (heads (c .run-queue))) (s .cores) no-core m in
+        let k = c .0 in
+        let d = inside k (c .1) in
+        let core : core-of s k ≡ view-core t k = core-of-view t k d in
+        let batches = core-of s k .run-queue in
+        let q = head-found batches p (c .2) in
+        let i = q .0 in
+        let one : heads-in s p ≤ 1 = omega (arith, heads-below t some (h .cores) p, standing-once t words h p) in
+        let batch : getD batches i [] ≡ batch-of t p = batch-from t some k d i (q .1) p (q .2) in
+        let keeps : (f : List ℕ → ℕ) → head-link f s p ≡ f (batch-of t p) =
+          λ f. head-keeps s p f one k (c .1) i (q .1) (q .2) ∙ ap f batch in
+        let all-heads : heads batches ≡ heads-of t k = ap (λ (x : Core). heads (x .run-queue)) core ∙ heads-are t some k in
+        let stands : 1 ≤ times p (heads-of t k) = omega (arith, c .2, ap (times p) all-heads) in
+        let x = h .cores k d .batches in
+        let queue = x .each p stands .queue in
+        (keeps last ∙ sym (last-from-zero (batch-of t p)) ∙ sym (queue .last-is),
+          keeps length ∙ sym (zero-add (length (batch-of t p))) ∙ sym (queue .size-is) ∙ ap (word t) (omega arith),
+          batch-follows s v k (c .1) p (c .2) ∙ ap (follows p) all-heads
+          ∙ linked-follows (batch-behind t) (core-word t k 8) (heads-of t k) (x .linked) p stands)
+
+    heads-none : heads-in s p ≡ 0 → HeadWords
+    heads-none e =
+        let z = stands-linked t words h p l b .1 .batch e in
+        (no-head-link s p last e ∙ sym (z 0 (lit< tt)) ∙ ap (word t) (omega arith),
+          no-head-link s p length e ∙ sym (z 1 (lit< tt)) ∙ ap (word t) (omega arith),
+          no-batch-link s p e ∙ sym (z 2 (lit< tt)) ∙ ap (word t) (omega arith))
+
+    links-are : link-words s p ≡ tabulate (process-word t p) 20 4
+    links-are = cases (leb 1 (heads-in s p)) refl
+      where
+        all-of : HeadWords → link-words s p ≡ tabulate (process-word t p) 20 4
+        all-of x = cc (next-is, x .0, x .1, x .2)
+
+        cases : (y : Bool) → leb 1 (heads-in s p) ≡ y → link-words s p ≡ tabulate (process-word t p) 20 4
+        cases true e = all-of (heads-found (leb-true 1 (heads-in s p) e))
+        cases false e = all-of (heads-none (omega (arith, leb-false 1 (heads-in s p) e)))
+
+    -- the words of a process
+    process-is : process-words s p ≡ tabulate (process-word t p) 0 24
+    unfolding process-words
+    process-is =
+        let r : process-of s p ≡ view-process t p = process-of-view t p l b in
+        let state : state-words (process-of s p) ≡ tabulate (process-word t p) 0 6 = ap state-words r ∙ h .processes p l b .state in
+        let progress : progress-words (process-of s p .progress) ≡ tabulate (process-word t p) 6 14 =
+          ap (λ (x : Process). progress-words (x .progress)) r ∙ h .processes p l b .words in
+        λ i. state i ++ (progress i ++ links-are i)
+
+  -- the words of a core
+  core-is : (k : ℕ) → k < K-of t → core-words (view-core t k) ≡ tabulate (core-word t k) 0 16
+  unfolding core-words view-core
+  core-is k b =
+      let w = core-word t k in
+      let c = view-core t k in
+      let flat = flat-core t words h k b in
+      let fits = h .cores k b in
+      let link = next-of t in
+      let all-heads : heads (c .run-queue) ≡ heads-of t k = heads-are t some k in
+      let first-active : first (c .active) ≡ w 3 = chain-first link (N-of t) (w 3) some in
+      let last-active : last (c .active) ≡ w 4 = sym (last-from-zero (c .active)) ∙ sym (fits .active .last-is) in
+      let size-active : length (c .active) ≡ w 5 = sym (zero-add (length (c .active))) ∙ sym (fits .active .size-is) ∙ ap (word t) (omega arith) in
+      let first-head : first (heads (c .run-queue)) ≡ w 8 = ap first all-heads ∙ chain-first (batch-behind t) (N-of t) (w 8) some in
+      let last-head : last (heads (c .run-queue)) ≡ w 9 = ap last all-heads ∙ sym (last-from-zero (heads-of t k)) ∙ sym (fits .batches .last-is) in
+      let unused : (f : ℕ) → f < 6 → 0 ≡ w (10 + f) = λ f b. sym (flat .unused f b) ∙ ap (word t) (omega arith) in
+      let queues : queue-words c ≡ tabulate w 3 13 =
+        cc (first-active, last-active, size-active, flat .mark, first-head, last-head, unused 0 (lit< tt), unused 1 (lit< tt), unused 2 (lit< tt),
+          unused 3 (lit< tt), unused 4 (lit< tt), unused 5 (lit< tt)) in
+      λ i. flat .work .1 i ++ queues i
+
+  -- the header's words
+  header-is : header-words s ≡ tabulate (word t) 0 8
+  unfolding header-words
+  header-is =
+      let unused = h .header .unused in
+      cc (cores-of-view t, processes-of-view t, channels-of-view t, unused 0 (lit< tt), unused 1 (lit< tt), unused 2 (lit< tt), unused 3 (lit< tt),
+        unused 4 (lit< tt))
+
+  -- The table holds the words of the state.
+  pub fits-holds : Holds (dims s) (words-of s) t
+  fits-holds =
+      record {
+        size = rw (cores-of-view, processes-of-view, channels-of-view) (h .header .length);
+        header = λ f b. block-word (word t) 8 f (header-words s) header-is b;
+        core = λ k f b c. let d = inside k b in block-word (core-word t k) 16 f (core-words (core-of s k)) (ap core-words (core-of-view t k d) ∙ core-is k d) c;
+        process = λ p f l b c.
+          let d : p ≤ N-of t = subst (λ (n : ℕ). p ≤ n) (processes-of-view t) b in
+          rw cores-of-view (block-word (process-word t p) 24 f (process-words s p) (process-is p l d) c);
+        channel = λ c f l b d.
+          let e : c ≤ M-of t = subst (λ (n : ℕ). c ≤ n) (channels-of-view t) b in
+          rw (cores-of-view, processes-of-view)
+          (sym (ap (λ (x : Channel). getD (channel-words x) f 0) (channel-of-view t c l e) ∙ channel-words-back t c f d));
+      }

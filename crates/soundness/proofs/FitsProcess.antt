@@ -1,0 +1,136 @@
+-- The words of a process fit exactly where they are those of a valid process, and what was met of it exactly where it stands in its place.
+use Prim.Native.Nat.{ℕ, zero, suc, _+_, _*_, _≤_, _<_}
+use mathlib.Core.Path.{_≡_, refl, sym, ap, _∙_, subst}
+use mathlib.Core.Bool.{Bool, true, false, _&&_}
+use mathlib.Core.List.{List, [], _∷_}
+use mathlib.Core.Logic.{_↔_}
+use native.Mathlib.Omega.{arith}
+use native.Mathlib.Nat.{add-zero}
+use lib.Dec.{T, eqb, leb, leb→le, le→leb}
+use lib.ListN.{getD}
+use borrow.Author.Tests.{ne-eqb}
+use Rattle.rules.specs.Lists.{if_then_else_, within, tabulate, bit}
+use Rattle.rules.specs.State.{Place, running, queued, asleep, ended, Progress, Wiring, wiring}
+use Rattle.rules.specs.Packing.{place-number, progress-words, K-of, N-of, M-of, process-at, process-word, place-from, view-process, view}
+use Rattle.rules.specs.Soundness.{valid-progress, fits, stands}
+use Rattle.packing.proofs.Reflect.{both, three, together, within-means}
+use Rattle.packing.proofs.Reading.{state-words}
+use Rattle.soundness.proofs.Tests.{bit-means, bit-holds, zeros-mean, zeros-hold, six, all-six}
+use Rattle.soundness.proofs.FitsProgress.{progress-exact, places-are}
+use Rattle.soundness.specs.Twin.{word, zeros, place-fits, meeting-fits, progress-fits, process-fits}
+
+-- a number that fits is that of a place
+place-known : (place n : ℕ) → T (place-fits place n) → place-number (place-from place) ≡ place
+place-known zero n h = absurd h
+place-known (suc zero) n h = refl
+place-known (suc (suc zero)) n h = refl
+place-known (suc (suc (suc zero))) n h = refl
+place-known (suc (suc (suc (suc zero)))) n h = refl
+place-known (suc (suc (suc (suc (suc m))))) n h =
+    let place : ℕ = suc (suc (suc (suc (suc m)))) in
+    let g : T (within 2 3 place && leb 1 n) = rw (ne-eqb place 1 (λ e. omega arith), ne-eqb place 4 (λ e. omega arith)) at h in
+    absurd (omega (arith, within-means 2 3 place (both (within 2 3 place) (leb 1 n) g .0)))
+
+-- what of a process its own words say: it is that of a valid process
+pub record FlatProcess (t : List ℕ) (p : ℕ) : Type 0 where
+  pub count : view-process t p .alternation .count ≤ 9
+  pub progress : T (valid-progress (wiring (view t)) p (view-process t p .progress))
+  pub places : T (fits (view-process t p .place) (view-process t p .progress))
+  pub state : state-words (view-process t p) ≡ tabulate (process-word t p) 0 6
+  pub words : progress-words (view-process t p .progress) ≡ tabulate (process-word t p) 6 14
+
+module _ (t met : List ℕ) (p : ℕ) where
+  abbrev w : ℕ → ℕ
+  w = process-word t p
+
+  abbrev meeting : Bool
+  meeting = meeting-fits t (K-of t) p (w 0) (getD met p 0)
+
+  abbrev progress : Bool
+  progress = progress-fits t (K-of t) (N-of t) (M-of t) p
+
+  -- The words of a process fit exactly where they are those of a valid one, and what was met fits.
+  pub process-exact : T (process-fits t (K-of t) (N-of t) (M-of t) met p) ↔ (FlatProcess t p × T meeting)
+  unfolding view-process
+  process-exact = (to, back)
+    where
+      to : T (process-fits t (K-of t) (N-of t) (M-of t) met p) → FlatProcess t p × T meeting
+      to h =
+          let u = both (leb (w 2) 1 && leb (w 3) 1 && leb (w 4) 1 && leb (w 5) 9 && place-fits (w 0) (w 6) && meeting) progress h in
+          let v = six (leb (w 2) 1) (leb (w 3) 1) (leb (w 4) 1) (leb (w 5) 9) (place-fits (w 0) (w 6)) meeting (u .0) in
+          let x = progress-exact t p .0 (u .1) in
+          let place : place-number (place-from (w 0)) ≡ w 0 = place-known (w 0) (w 6) (v .4) in
+          (record {
+            count = leb→le (w 5) 9 (v .3);
+            progress = x .0;
+            places = rw (places-are t p (u .1), place) (v .4);
+            state = cc (place, bit-means (w 2) (v .0), bit-means (w 3) (v .1), bit-means (w 4) (v .2));
+            words = x .1;
+          }, v .5)
+
+      back : FlatProcess t p × T meeting → T (process-fits t (K-of t) (N-of t) (M-of t) met p)
+      back h =
+          let x = progress-exact t p .1 (h .0 .progress, h .0 .words) in
+          let state = h .0 .state in
+          let place : place-number (place-from (w 0)) ≡ w 0 = cc in
+          let good : T (place-fits (w 0) (w 6)) = rw (places-are t p x, place) at (h .0 .places) in
+          together (leb (w 2) 1 && leb (w 3) 1 && leb (w 4) 1 && leb (w 5) 9 && place-fits (w 0) (w 6) && meeting) progress
+          (all-six (leb (w 2) 1) (leb (w 3) 1) (leb (w 4) 1) (leb (w 5) 9) (place-fits (w 0) (w 6)) meeting
+          (bit-holds (eqb (w 2) 1) (w 2) (cc)) (bit-holds (eqb (w 3) 1) (w 3) (cc)) (bit-holds (eqb (w 4) 1) (w 4) (cc)) (le→leb (w 5) 9 (h .0 .count)) good (h .1)) x
+
+-- Meeting
+
+-- who is in no queue has no links, and who heads no batch none of a batch's
+pub record NoLinks (t : List ℕ) (K p queues heads : ℕ) : Type 0 where
+  pub next : queues ≡ 0 → word t (process-at K p 20) ≡ 0
+  pub batch : heads ≡ 0 → (f : ℕ) → f < 3 → word t (process-at K p 21 + f) ≡ 0
+
+-- where a process stands, as a test of its place's number: nowhere, on a core, in a queue
+pub record PlaceTests (y : Place) : Type 0 where
+  pub nowhere : stands 0 0 y ≡ leb 3 (place-number y)
+  pub on-core : stands 1 0 y ≡ eqb (place-number y) 1
+  pub in-queue : stands 0 1 y ≡ eqb (place-number y) 2
+
+place-tests : (y : Place) → PlaceTests y
+place-tests running = record { nowhere = refl; on-core = refl; in-queue = refl }
+place-tests queued = record { nowhere = refl; on-core = refl; in-queue = refl }
+place-tests asleep = record { nowhere = refl; on-core = refl; in-queue = refl }
+place-tests ended = record { nowhere = refl; on-core = refl; in-queue = refl }
+
+module _ (t : List ℕ) (K p : ℕ) where
+  -- who has no links at all
+  no-links : T (zeros t (process-at K p 20) 4) ↔ NoLinks t K p 0 0
+  no-links =
+      (λ h. let z = zeros-mean t (process-at K p 20) 4 h in
+        record { next = λ e. rw add-zero at (z 0 (omega arith)); batch = λ e f b. ap (word t) (omega arith) ∙ z (suc f) (omega arith) },
+        λ h. zeros-hold t (process-at K p 20) 4 (cases h))
+    where
+      cases : NoLinks t K p 0 0 → (i : ℕ) → i < 4 → word t (process-at K p 20 + i) ≡ 0
+      cases h zero b = rw add-zero (h .next refl)
+      cases h (suc i) b = ap (word t) (omega arith) ∙ h .batch refl i (omega arith)
+
+  -- who is in a queue and heads no batch
+  no-batch-links : T (zeros t (process-at K p 21) 3) ↔ NoLinks t K p 1 0
+  no-batch-links =
+      (λ h. record { next = λ e. absurd (omega arith); batch = λ e. zeros-mean t (process-at K p 21) 3 h },
+        λ h. zeros-hold t (process-at K p 21) 3 (h .batch refl))
+
+  -- a test and another that says the same as a fact
+  both-exact : (a a′ b : Bool) (C : Type 0) → a′ ≡ a → T b ↔ C → T (a && b) ↔ (T a′ × C)
+  both-exact a a′ b C e r =
+      (λ h. let u = both a b h in (rw e (u .0), r .0 (u .1)), λ h. together a b (subst T e (h .0)) (r .1 (h .1)))
+
+  -- What was met fits exactly where the process stands in its place and has no links that it should not have.
+  pub meeting-exact : (cores queues heads : ℕ) (y : Place) → cores + queues ≤ 1 → heads ≤ queues
+      → T (meeting-fits t K p (place-number y) (cores + 2 * queues + heads)) ↔ (T (stands cores queues y) × NoLinks t K p queues heads)
+  meeting-exact zero zero zero y b c = both-exact (leb 3 (place-number y)) (stands 0 0 y) _ _ (place-tests y .nowhere) no-links
+  meeting-exact (suc zero) zero zero y b c = both-exact (eqb (place-number y) 1) (stands 1 0 y) _ _ (place-tests y .on-core) no-links
+  meeting-exact zero (suc zero) zero y b c = both-exact (eqb (place-number y) 2) (stands 0 1 y) _ _ (place-tests y .in-queue) no-batch-links
+  meeting-exact zero (suc zero) (suc zero) y b c =
+      (λ h. (rw (place-tests y .in-queue) h, record { next = λ e. absurd (omega arith); batch = λ e. absurd (omega arith) }), λ h. rw (place-tests y .in-queue) at (h .0))
+  meeting-exact zero zero (suc heads) y b c = absurd (omega arith)
+  meeting-exact zero (suc zero) (suc (suc heads)) y b c = absurd (omega arith)
+  meeting-exact zero (suc (suc queues)) heads y b c = absurd (omega arith)
+  meeting-exact (suc zero) zero (suc heads) y b c = absurd (omega arith)
+  meeting-exact (suc zero) (suc queues) heads y b c = absurd (omega arith)
+  meeting-exact (suc (suc cores)) queues heads y b c = absurd (omega arith)

@@ -1,0 +1,15 @@
+pub mod Tests
+pub mod Walks
+pub mod CoreWalks
+pub mod Views
+pub mod FitsChannel
+pub mod FitsCore
+pub mod Shapes
+pub mod FitsProgress
+pub mod FitsProcess
+pub mod Fitting
+pub mod Links
+pub mod FitsValid
+pub mod FitsHolds
+pub mod SoundFits
+pub mod FitsIsSound

@@ -1,0 +1,305 @@
+-- A sound table fits: its parts are those of a valid state, and its words those of the state's packing.
+use Prim.Native.Nat.{ℕ, zero, suc, _+_, _*_, _≤_, _<_}
+use mathlib.Core.Path.{_≡_, refl, sym, ap, _∙_, subst}
+use mathlib.Core.Bool.{Bool, true, false, _&&_}
+use mathlib.Core.List.{List, [], _∷_, _++_, map}
+use native.Mathlib.Omega.{arith}
+use native.Mathlib.Nat.{zero-add, add-zero}
+use lib.Dec.{T, leb, eqb, lit<, eqb→eq}
+use lib.ListN.{length, getD, replicate, getD-replicate}
+use borrow.Author.Tests.{leb-true, leb-false}
+use Rattle.rules.specs.Lists.{within, all, total, tabulate, from, times, first, last, follows, bit}
+use Rattle.rules.specs.State.{Place, running, queued, asleep, ended, no-task, trigger, wake-up, Work, runs, free, Core, Process, Channel, queues-of, State, Wiring, wiring}
+use Rattle.rules.specs.Items.{core-of, process-of, channel-of, no-core, no-channel}
+use Rattle.rules.specs.SetUp.{room, sizes}
+use Rattle.rules.specs.Packing.{
+  heads,
+  place-number,
+  work-words,
+  core-words,
+  progress-words,
+  next-link,
+  head-link,
+  batch-link,
+  header-words,
+  pack,
+  K-of,
+  N-of,
+  M-of,
+  core-at,
+  process-at,
+  core-word,
+  process-word,
+  view-core,
+  view-process,
+  view-channel,
+  view,
+}
+use Rattle.rules.specs.Soundness.{runs-it, valid-progress, fits, on-cores, in-queues, stands, valid-process, valid-work, valid-core, valid-channel, valid}
+use Rattle.packing.proofs.Blocks.{length-work-words, length-progress-words, second-part, pack-holds}
+use Rattle.packing.proofs.Tabulate.{tabulate-back}
+use Rattle.packing.proofs.Reflect.{both, four, within-means, all-at, Valid, valid-means}
+use Rattle.packing.proofs.Sums.{Among, positive-term}
+use Rattle.packing.proofs.Chains.{queue-of, queue-among, next-follows, heads-among, batch-follows, heads-in-core, queued-once, queued-range}
+use Rattle.packing.proofs.Reading.{state-words, link-words, state-word, progress-word, link-word}
+use Rattle.packing.proofs.ViewCore.{queue-words, work-word, queue-word}
+use Rattle.soundness.proofs.Walks.{Apart, Linked, Queue, next-of, batch-of, batch-behind, Batch, Heads}
+use Rattle.soundness.proofs.CoreWalks.{standing, load, CoreFits, chain-first, heads-of, heads-are}
+use Rattle.soundness.proofs.Views.{cores-of-view, processes-of-view, channels-of-view, core-of-view, process-of-view, channel-of-view}
+use Rattle.soundness.proofs.FitsCore.{FlatCore, means-core-fits}
+use Rattle.soundness.proofs.FitsProcess.{FlatProcess, NoLinks, meeting-exact}
+use Rattle.soundness.proofs.Fitting.{HeaderFits, header-processes, Fitting}
+use Rattle.soundness.proofs.Links.{linked-back, last-from-zero, head-found, heads-in, heads-le, standing-is, load-is, no-next, no-head-link, no-batch-link, head-keeps}
+use Rattle.soundness.proofs.FitsValid.{batch-from, heads-below}
+use Rattle.soundness.proofs.Tests.{bit-positive}
+use Rattle.soundness.specs.Twin.{word, meeting-fits, core-fits}
+
+-- words that are those of a list of this length
+words-block : (f : ℕ → ℕ) (a n : ℕ) (l : List ℕ) → length l ≡ n → ((i : ℕ) → i < n → f (a + i) ≡ getD l i 0) → l ≡ tabulate f a n
+words-block f a n l size e = sym (tabulate-back f a n 0 l (sym size) (λ i b. e i (omega arith)))
+
+-- a test of two numbers says what they add up to
+counted : (cores queues a b : ℕ) → a + b ≤ 1 → T (eqb cores a && eqb queues b) → cores + queues ≤ 1
+counted cores queues a b l h = let r = both (eqb cores a) (eqb queues b) h in omega (arith, eqb→eq cores a (r .0), eqb→eq queues b (r .1))
+
+-- a process that stands in its place does so once
+stands-total : (cores queues : ℕ) (y : Place) → T (stands cores queues y) → cores + queues ≤ 1
+stands-total cores queues running h = counted cores queues 1 0 (omega arith) h
+stands-total cores queues queued h = counted cores queues 0 1 (omega arith) h
+stands-total cores queues asleep h = counted cores queues 0 0 (omega arith) h
+stands-total cores queues ended h = counted cores queues 0 0 (omega arith) h
+
+-- the process that a valid core runs is one of the processes
+runs-range : (w : Wiring) (q : ℕ) (x : Work) → T (valid-work w x) → 1 ≤ runs-it q x → (1 ≤ q) × (q ≤ w .N)
+runs-range w q (runs p) h b = subst (λ (n : ℕ). (1 ≤ n) × (n ≤ w .N)) (eqb→eq p q (bit-positive (eqb p q) b)) (within-means 1 (w .N) p h)
+runs-range w q (free x) h b = absurd (omega arith)
+
+module _ (t : List ℕ) (good : T (valid (view t))) (packed : pack (view t) ≡ t) where
+  abbrev s : State
+  s = view t
+
+  abbrev w : Wiring
+  w = wiring (view t)
+
+  v : Valid s
+  v = valid-means s good
+
+  -- the four tests of a valid state
+  parts : T (sizes (w .K) (w .N) (length (s .channels))) × T (all (valid-core w) (s .cores)) × T (all (valid-process s) (from 1 (w .N)))
+      × T (all (valid-channel w) (s .channels))
+  unfolding valid
+  parts =
+      four (sizes (w .K) (w .N) (length (s .channels))) (all (valid-core w) (s .cores)) (all (valid-process s) (from 1 (w .N)))
+      (all (valid-channel w) (s .channels)) good
+
+  -- the header
+  header-fits : HeaderFits t
+  unfolding header-words
+  header-fits =
+      record {
+        sizes = rw (cores-of-view, processes-of-view, channels-of-view) at (parts .0);
+        length = rw (cores-of-view, processes-of-view, channels-of-view) at (ap length (sym packed) ∙ pack-holds s .size);
+        unused = λ i b.
+          subst (λ (u : List ℕ). word u (3 + i) ≡ getD (header-words s) (3 + i) 0) packed (pack-holds s .header (3 + i) (omega arith))
+          ∙ second-part (w .K ∷ w .N ∷ length (s .channels) ∷ []) (replicate 5 0) 3 i refl ∙ getD-replicate 5 i 0 0 b;
+      }
+
+  some : 1 ≤ N-of t
+  some = header-processes t header-fits .0
+
+  -- the link words of a process
+  links : (p : ℕ) → 1 ≤ p → p ≤ length (s .processes) → (f : ℕ) → f < 4 → process-word t p (20 + f) ≡ getD (link-words s p) f 0
+  links p l b f c = subst (λ (u : List ℕ). process-word u p (20 + f) ≡ getD (link-words s p) f 0) packed (link-word s p l b f c)
+
+  module _ (k : ℕ) (b : k < K-of t) where
+    inside : k < length (s .cores)
+    inside = subst (λ (n : ℕ). k < n) (sym (cores-of-view t)) b
+
+    core : core-of s k ≡ view-core t k
+    core = core-of-view t k b
+
+    -- the words of the core
+    work-words-are : (f : ℕ) → f < 3 → core-word t k f ≡ getD (work-words (view-core t k .work)) f 0
+    work-words-are f d =
+        subst (λ (u : List ℕ). core-word u k f ≡ getD (work-words (view-core t k .work)) f 0) packed
+        (work-word s v k inside f d ∙ ap (λ (x : Core). getD (work-words (x .work)) f 0) core)
+
+    queue-words-are : (f : ℕ) → f < 13 → core-word t k (3 + f) ≡ getD (queue-words (view-core t k)) f 0
+    queue-words-are f d =
+        subst (λ (u : List ℕ). core-word u k (3 + f) ≡ getD (queue-words (view-core t k)) f 0) packed
+        (queue-word s v k inside f d ∙ ap (λ (x : Core). getD (queue-words x) f 0) core)
+
+    -- its words that belong to no queue
+    flat : FlatCore w t k
+    unfolding view-core
+    flat =
+        record {
+          work = (subst (λ (x : Core). T (valid-work w (x .work))) core (v .cores k inside .work),
+            words-block (core-word t k) 0 3 (work-words (view-core t k .work)) (length-work-words (view-core t k .work)) (λ i d. ap (core-word t k) (zero-add i) ∙ work-words-are i d));
+          dispatch = subst (λ (x : Core). x .dispatch ≤ 32) core (v .cores k inside .dispatch);
+          mark = sym (queue-words-are 4 (lit< tt));
+          unused = λ f d.
+            let x = view-core t k in
+            let l = first (x .active) ∷ last (x .active) ∷ length (x .active) ∷ x .dispatch ∷ bit (x .mark) ∷ first (heads (x .run-queue))
+                      ∷ last (heads (x .run-queue)) ∷ [] in
+            let place : core-at k 10 + f ≡ core-at k (3 + (7 + f)) = omega arith in
+            ap (word t) place ∙ queue-words-are (7 + f) (omega arith) ∙ second-part l (replicate 6 0) 7 f refl ∙ getD-replicate 6 f 0 0 d;
+        }
+
+    -- its queues are linked
+    queue-linked : (i : ℕ) → i < length (queues-of (core-of s k)) → Linked (next-of t) (first (queue-of s k i)) (queue-of s k i)
+    queue-linked i d =
+        let a = queue-among s v k inside i d in
+        linked-back (length (s .processes)) (next-of t) (queue-of s k i) a
+        (λ p m. let r = a .range p m in links p (r .0) (r .1) 0 (lit< tt) ∙ next-follows s v k inside i d p m)
+
+    -- a queue that is read out from p on is linked from p on
+    read-linked : (p : ℕ) (l : List ℕ) → l ≡ batch-of t p → Linked (next-of t) (first l) l
+        → Linked (next-of t) p (batch-of t p)
+    read-linked p l e h =
+        subst (λ (n : ℕ). Linked (next-of t) n (batch-of t p))
+        (chain-first (next-of t) (N-of t) p some)
+        (subst (λ (m : List ℕ). Linked (next-of t) (first m) m) e h)
+
+    heads-eq : heads (core-of s k .run-queue) ≡ heads-of t k
+    heads-eq = ap (λ (x : Core). heads (x .run-queue)) core ∙ heads-are t some k
+
+    -- and so are the heads of its batches
+    heads-linked : Linked (batch-behind t) (core-word t k 8) (heads-of t k)
+    heads-linked =
+        let a = heads-among s v k inside in
+        let l = heads (core-of s k .run-queue) in
+        let from-first : Linked (batch-behind t) (first l) l =
+          linked-back (length (s .processes)) (batch-behind t) l a
+          (λ p m. let r = a .range p m in links p (r .0) (r .1) 3 (lit< tt) ∙ batch-follows s v k inside p m) in
+        let at-first : first (heads-of t k) ≡ core-word t k 8 = chain-first (batch-behind t) (N-of t) (core-word t k 8) some in
+        subst (λ (n : ℕ). Linked (batch-behind t) n (heads-of t k)) at-first
+        (subst (λ (m : List ℕ). Linked (batch-behind t) (first m) m) heads-eq from-first)
+
+    -- a head's batch
+    batch-here : (p : ℕ) → 1 ≤ times p (heads-of t k) → Batch t p
+    batch-here p m =
+        let batches = core-of s k .run-queue in
+        let batch = batch-of t p in
+        let m′ : 1 ≤ times p (heads batches) = omega (arith, ap (times p) heads-eq) in
+        let r = heads-among s v k inside .range p m′ in
+        let q = head-found batches p m′ in
+        let i = q .0 in
+        let e : getD batches i [] ≡ batch = batch-from t some k b i (q .1) p (q .2) in
+        let one : heads-in s p ≤ 1 = omega (arith, heads-le s p (λ j d. heads-in-core s v j d p), queued-once s v p) in
+        let keeps : (f : List ℕ → ℕ) → head-link f s p ≡ f batch = λ f. head-keeps s p f one k inside i (q .1) (q .2) ∙ ap f e in
+        record {
+          low = r .0;
+          high = subst (λ (n : ℕ). p ≤ n) (processes-of-view t) (r .1);
+          queue = record {
+            linked = read-linked p (getD batches i []) e (queue-linked (suc i) (omega arith));
+            last-is = links p (r .0) (r .1) 1 (lit< tt) ∙ keeps last ∙ sym (last-from-zero batch);
+            size-is = ap (word t) (omega arith) ∙ links p (r .0) (r .1) 2 (lit< tt) ∙ keeps length ∙ sym (zero-add (length batch));
+          };
+        }
+
+    core-here : CoreFits t k
+    unfolding view-core
+    core-here =
+        record {
+          flat = rw processes-of-view at (means-core-fits w t k flat);
+          active = record {
+            linked = read-linked (core-word t k 3) (core-of s k .active) (ap (λ (x : Core). x .active) core) (queue-linked 0 (omega arith));
+            last-is = queue-words-are 1 (lit< tt) ∙ sym (last-from-zero (view-core t k .active));
+            size-is = ap (word t) (omega arith) ∙ queue-words-are 2 (lit< tt) ∙ sym (zero-add (length (view-core t k .active)));
+          };
+          batches = record {
+            linked = heads-linked;
+            last-is = queue-words-are 6 (lit< tt) ∙ ap last (heads-are t some k) ∙ sym (last-from-zero (heads-of t k));
+            each = batch-here;
+          };
+        }
+
+  -- who stands somewhere is a process
+  standing-range : (q : ℕ) → 1 ≤ on-cores s q + in-queues s q → (1 ≤ q) × (q ≤ length (s .processes))
+  unfolding on-cores
+  standing-range q m = cases (leb 1 (in-queues s q)) refl
+    where
+      cases : (y : Bool) → leb 1 (in-queues s q) ≡ y → (1 ≤ q) × (q ≤ length (s .processes))
+      cases true e = queued-range s v q (leb-true 1 (in-queues s q) e)
+      cases false e =
+          let r = positive-term (λ (x : Core). runs-it q (x .work)) (s .cores) no-core (omega (arith, leb-false 1 (in-queues s q) e)) in
+          runs-range w q (core-of s (r .0) .work) (v .cores (r .0) (r .1) .work) (r .2)
+
+  -- no process stands in two places
+  places-apart : Apart (N-of t) (λ q. 0) (λ q. total (standing q) (s .cores))
+  places-apart q m =
+      let r = standing-range q (omega (arith, standing-is s q)) in
+      (r .0, subst (λ (n : ℕ). q ≤ n) (processes-of-view t) (r .1), refl,
+        omega (arith, standing-is s q, stands-total (on-cores s q) (in-queues s q) (process-of s q .place) (v .processes q (r .0) (r .1) .stands)))
+
+  module _ (p : ℕ) (l : 1 ≤ p) (b : p ≤ N-of t) where
+    exists : p ≤ length (s .processes)
+    exists = subst (λ (n : ℕ). p ≤ n) (sym (processes-of-view t)) b
+
+    process : process-of s p ≡ view-process t p
+    process = process-of-view t p l b
+
+    -- words of its own that are packed from the a-th word on
+    read-is : (f : Process → List ℕ) (a n : ℕ) → length (f (process-of s p)) ≡ n
+        → ((i : ℕ) → i < n → process-word (pack s) p (a + i) ≡ getD (f (process-of s p)) i 0) → f (view-process t p) ≡ tabulate (process-word t p) a n
+    read-is f a n size e =
+        ap f (sym process) ∙ words-block (process-word (pack s) p) a n (f (process-of s p)) size e
+        ∙ ap (λ (u : List ℕ). tabulate (process-word u p) a n) packed
+
+    -- its own words are those of a valid process
+    process-here : FlatProcess t p
+    process-here =
+        let valid-here = v .processes p l exists in
+        let x = process-of s p .progress in
+        record {
+          count = subst (λ (x : Process). x .alternation .count ≤ 9) process (valid-here .count);
+          progress = subst (λ (x : Process). T (valid-progress w p (x .progress))) process (valid-here .progress);
+          places = subst (λ (x : Process). T (fits (x .place) (x .progress))) process (valid-here .fits);
+          state = read-is state-words 0 6 refl (λ i c. ap (process-word (pack s) p) (zero-add i) ∙ state-word s p l exists i c);
+          words = read-is (λ x. progress-words (x .progress)) 6 14 (length-progress-words x) (progress-word s p l exists);
+        }
+
+    -- it has no links that it should not have
+    no-links : NoLinks t (K-of t) p (in-queues s p) (heads-in s p)
+    no-links = record { next = λ e. links p l exists 0 (lit< tt) ∙ no-next s p e; batch = no-batch }
+      where
+        no-batch : heads-in s p ≡ 0 → (f : ℕ) → f < 3 → word t (process-at (K-of t) p 21 + f) ≡ 0
+        no-batch e f c =
+            let behind = head-link last s p ∷ head-link length s p ∷ batch-link s p ∷ [] in
+            let none : behind ≡ replicate 3 0 = cc (no-head-link s p last e, no-head-link s p length e, no-batch-link s p e) in
+            let place : process-at (K-of t) p 21 + f ≡ process-at (K-of t) p (20 + (1 + f)) = omega arith in
+            ap (word t) place ∙ links p l exists (1 + f) (omega arith) ∙ second-part (next-link s p ∷ []) behind 1 f refl
+            ∙ ap (λ (m : List ℕ). getD m f 0) none ∙ getD-replicate 3 f 0 0 c
+
+    -- what was met of it fits
+    meeting-here : T (meeting-fits t (K-of t) p (process-word t p 0) (total (load p) (s .cores)))
+    unfolding view-process
+    meeting-here =
+        let y = view-process t p .place in
+        let state = process-here .state in
+        let place : process-word t p 0 ≡ place-number y = cc in
+        let stands-here : T (stands (on-cores s p) (in-queues s p) y) =
+          subst (λ (x : Process). T (stands (on-cores s p) (in-queues s p) (x .place))) process (v .processes p l exists .stands) in
+        rw (place, load-is)
+        (meeting-exact t (K-of t) p (on-cores s p) (in-queues s p) (heads-in s p) y (stands-total (on-cores s p) (in-queues s p) y stands-here)
+        (heads-below t some core-here p) .1 (stands-here, no-links))
+
+  -- its channels are valid
+  channel-here : (c : ℕ) → 1 ≤ c → c ≤ M-of t → T (valid-channel w (view-channel t c))
+  channel-here zero l b = absurd (omega arith)
+  channel-here (suc c) l b =
+      subst (λ (x : Channel). T (valid-channel w x)) (channel-of-view t (suc c) l b)
+      (all-at (valid-channel w) (s .channels) no-channel (parts .3) c (subst (λ (n : ℕ). c < n) (sym (channels-of-view t)) b))
+
+  -- A sound table fits.
+  pub sound-fits : Fitting t
+  sound-fits =
+      record {
+        header = header-fits;
+        cores = core-here;
+        apart = places-apart;
+        processes = process-here;
+        meetings = meeting-here;
+        channels = channel-here;
+      }
