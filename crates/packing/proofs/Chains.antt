@@ -129,7 +129,7 @@ module _ (s : State) (v : Valid s) where
         ∙ total-only (times p) (follows p) (follows-none p) l (omega (arith, in-core p, queued-once p)) [] i c h
 
     -- a head stands in the queues of its core
-    heads-in-core : (p : ℕ) → times p (heads (core-of s k .run-queue)) ≤ total (times p) (queues-of (core-of s k))
+    pub heads-in-core : (p : ℕ) → times p (heads (core-of s k .run-queue)) ≤ total (times p) (queues-of (core-of s k))
     heads-in-core p =
         let l = core-of s k .run-queue in
         omega (

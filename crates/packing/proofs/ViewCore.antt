@@ -39,7 +39,7 @@ batches-back queue (x ∷ xs) e =
     cc
 
 -- the words of a core behind its work
-abbrev queue-words : Core → List ℕ
+abbrev pub queue-words : Core → List ℕ
 queue-words c =
     first (c .active) ∷ last (c .active) ∷ length (c .active)
     ∷ c .dispatch ∷ bit (c .mark) ∷ first (heads (c .run-queue)) ∷ last (heads (c .run-queue))
@@ -59,14 +59,14 @@ list-back s f b l a e =
 
 module _ (s : State) (v : Valid s) (k : ℕ) (b : k < length (s .cores)) where
   -- a word of the core's work
-  work-word : (f : ℕ) → f < 3 → core-word (pack s) k f ≡ getD (work-words (core-of s k .work)) f 0
+  pub work-word : (f : ℕ) → f < 3 → core-word (pack s) k f ≡ getD (work-words (core-of s k .work)) f 0
   unfolding core-words
   work-word f c =
       pack-holds s .core k f b (omega arith)
       ∙ first-part (work-words (core-of s k .work)) (queue-words (core-of s k)) 3 f (length-work-words (core-of s k .work)) c
 
   -- a word behind it
-  queue-word : (f : ℕ) → f < 13 → core-word (pack s) k (3 + f) ≡ getD (queue-words (core-of s k)) f 0
+  pub queue-word : (f : ℕ) → f < 13 → core-word (pack s) k (3 + f) ≡ getD (queue-words (core-of s k)) f 0
   unfolding core-words
   queue-word f c =
       pack-holds s .core k (3 + f) b (omega arith)
