@@ -18,7 +18,7 @@ abbrev pub with-channel : ℕ → Channel → State → State
 with-channel c r s = record { cores = s .cores; processes = s .processes; channels = set-nth (s .channels) c r }
 
 -- as many elements as before
-length-set-nth : {A : Type 0} (l : List A) (p : ℕ) (a : A) → length (set-nth l p a) ≡ length l
+pub length-set-nth : {A : Type 0} (l : List A) (p : ℕ) (a : A) → length (set-nth l p a) ≡ length l
 length-set-nth l zero a = refl
 length-set-nth l (suc i) a = length-set l i a
 

@@ -1,1 +1,4 @@
 pub mod Seen
+pub mod Free
+pub mod Take
+pub mod Store
