@@ -32,7 +32,7 @@ use Rattle.packing.proofs.Tabulate.{length-tabulate}
 use Rattle.packing.proofs.Reflect.{both, three, five, together, within-means}
 use Rattle.soundness.proofs.Tests.{equal-holds, all-three, all-five, six, all-six}
 use Rattle.soundness.proofs.Views.{take-tabulate, tabulate-as, processes-of-view, end-place, own-end-is}
-use Rattle.soundness.proofs.Shapes.{Shape, shape-words, shape-valid, shape-beyond, shape-of}
+use Rattle.soundness.proofs.Shapes.{Shape, shape-words, shape-valid, shape-of}
 use Rattle.soundness.specs.Twin.{
   word,
   zeros,
@@ -258,7 +258,7 @@ module _ (t : List ℕ) (p : ℕ) where
     Good = T (valid-progress w p read) × (progress-words read ≡ n ∷ c ∷ q ∷ g ∷ i ∷ r ∷ tabulate (process-word t p) 12 8)
 
     shape : n ≤ 23 → Shape w p c q gs i (ready-from r) n read
-    shape = shape-of w p c q gs i (ready-from r) n
+    shape = shape-of w p c q gs i (ready-from r) n .0
 
     to : T tests → Good
     unfolding GuardsRead
@@ -286,7 +286,7 @@ module _ (t : List ℕ) (p : ℕ) where
         cases true e = leb-true n 23 e
         cases false e =
             let beyond : 24 ≤ n = leb-false n 23 e in
-            let words = sym (h .1) ∙ ap progress-words (shape-beyond w p c q gs i (ready-from r) n beyond) in
+            let words = sym (h .1) ∙ ap progress-words (shape-of w p c q gs i (ready-from r) n .1 beyond) in
             let none : n ≡ 0 = cc in absurd (omega arith)
 
     back : Good → T tests
