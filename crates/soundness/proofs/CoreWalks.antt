@@ -1,19 +1,18 @@
 -- The walks over a core and over all cores are exact: what they look for, for the cores that are read out of the table.
 use Prim.Native.Nat.{ℕ, zero, suc, _+_, _*_, _≤_, _<_}
-use mathlib.Core.Path.{_≡_, refl, sym, ap, _∙_, subst}
-use mathlib.Core.Bool.{Bool, true, false, _&&_}
+use mathlib.Core.Path.{_≡_, refl, ap, subst}
+use mathlib.Core.Bool.{Bool, true, false}
 use mathlib.Core.List.{List, [], _∷_, map}
 use native.Mathlib.Omega.{arith}
-use lib.Dec.{T, eqb, leb, eqb·suc-zero}
-use lib.ListN.{length, getD, set}
-use borrow.Author.Tests.{eqb-true, eqb-false, leb-true, leb-false, eq-eqb, ne-eqb}
-use Rattle.rules.specs.Lists.{if_then_else_, within, total, tabulate, bit, times, first}
-use Rattle.rules.specs.State.{runs, free, Core, queues-of}
-use Rattle.rules.specs.Packing.{heads, K-of, N-of, core-at, process-at, core-word, chain, work-from, view-core}
+use lib.Dec.{T, eqb, eqb·suc-zero}
+use lib.ListN.{set}
+use borrow.Author.Tests.{eqb-true, eqb-false}
+use Rattle.rules.specs.Lists.{if_then_else_, total, tabulate, times, first}
+use Rattle.rules.specs.State.{Core, queues-of}
+use Rattle.rules.specs.Packing.{heads, K-of, N-of, core-at, core-word, chain, work-from, view-core}
 use Rattle.rules.specs.Soundness.{runs-it}
-use Rattle.packing.proofs.Reflect.{both}
 use Rattle.packing.proofs.Sums.{head-stands}
-use Rattle.soundness.proofs.Walks.{
+use Rattle.soundness.proofs.Exact.{
   Exact,
   exact-if,
   exact-then,
@@ -26,27 +25,40 @@ use Rattle.soundness.proofs.Walks.{
   apart-both,
   fresh-means,
   means-fresh,
-  Linked,
-  first-stands,
-  Queue,
   one-more,
   apart-one,
   one-here,
   met-as,
   met-one,
+}
+use Rattle.soundness.proofs.Walks.{
+  first-stands,
+  Queue,
   next-of,
   QueueFrom,
   MetFrom,
   chain-exact,
   batch-behind,
   batch-of,
-  Batch,
   Heads,
   HeadsFrom,
   MetHeads,
   batch-exact,
 }
-use Rattle.soundness.specs.Twin.{word, core-fits, fresh, Walk, flaw, well, and-then, meet-running, chain-walk, batch-walk, core-walk, cores-walk}
+use Rattle.soundness.specs.Twin.{
+  word,
+  core-fits,
+  fresh,
+  Walk,
+  flaw,
+  well,
+  and-then,
+  meet-running,
+  chain-walk,
+  batch-walk,
+  core-walk,
+  cores-walk,
+}
 
 -- how often a process stands on a core or in its queues
 abbrev pub standing : ℕ → Core → ℕ
@@ -123,8 +135,11 @@ module _ (t : List ℕ) where
       let link = next-of t in
       let batch = batch-of t in
       let e = h .batches .each in
-      omega (arith, ap (times q) (heads-are some k),
-        members-stand batch q (heads-of k) (λ x b. first-stands link x (batch x) (e x b .queue .linked) (e x b .low) q))
+      omega (
+        arith,
+        ap (times q) (heads-are some k),
+        members-stand batch q (heads-of k) (λ x b. first-stands link x (batch x) (e x b .queue .linked) (e x b .low) q),
+      )
 
   -- A core is found exactly.
   core-exact : 1 ≤ N-of t → (k : ℕ) (c : ℕ → ℕ) (met : List ℕ) → Met (N-of t) c met
@@ -133,15 +148,17 @@ module _ (t : List ℕ) where
   core-exact some k c met agrees =
       exact-if P Q (core-fits t N k) walk (λ h. h .0 .flat)
       (λ f. exact-then P Q (Apart N c running) (Met N c₁) (meet-running t N k met) after-running
-        (running-exact N c met agrees (core-word t k 0) (core-word t k 1) (core-word t k 2)) (λ h. apart-first N c running c₁ queues (h .1))
-        (λ m₁ a₁ g₁. exact-then P Q P₂ Q₂ (chain-walk t K N (core-at k 4) N m₁ (core-word t k 3) 0 0) after-active
-          (chain-exact t (core-at k 4) N m₁ c₁ (core-word t k 3) 0 0 g₁)
-          (λ h. (h .0 .active, apart-first N c₁ active c₂ batches (apart-second N c running c₁ queues grown₁ (h .1))))
-          (λ m₂ h₂ g₂. exact-as P Q P₃ Q₃ (after-active m₂)
-            (λ h. (record { flat = f; active = h₂ .0; batches = h .0 },
-              apart-both N c running c₁ queues grown₁ a₁ (apart-both N c₁ active c₂ batches grown₂ (h₂ .1) (h .1))))
-            (λ h. (h .0 .batches, apart-second N c₁ active c₂ batches grown₂ (apart-second N c running c₁ queues grown₁ (h .1))))
-            (λ m h. met-as N _ _ m (λ q. omega (arith, ap (times q) (heads-are some k)))) (batch-exact t k N m₂ c₂ (core-word t k 8) 0 g₂))))
+      (running-exact N c met agrees (core-word t k 0) (core-word t k 1) (core-word t k 2)) (λ h. apart-first N c running c₁ queues (h .1))
+      (λ m₁ a₁ g₁. exact-then P Q P₂ Q₂ (chain-walk t K N (core-at k 4) N m₁ (core-word t k 3) 0 0) after-active
+      (chain-exact t (core-at k 4) N m₁ c₁ (core-word t k 3) 0 0 g₁)
+      (λ h. (h .0 .active, apart-first N c₁ active c₂ batches (apart-second N c running c₁ queues grown₁ (h .1))))
+      (λ m₂ h₂ g₂. exact-as P Q P₃ Q₃ (after-active m₂)
+      (λ h. (
+        record { flat = f; active = h₂ .0; batches = h .0 },
+        apart-both N c running c₁ queues grown₁ a₁ (apart-both N c₁ active c₂ batches grown₂ (h₂ .1) (h .1)),
+      ))
+      (λ h. (h .0 .batches, apart-second N c₁ active c₂ batches grown₂ (apart-second N c running c₁ queues grown₁ (h .1))))
+      (λ m. met-as N _ _ m (λ q. omega (arith, ap (times q) (heads-are some k)))) (batch-exact t k N m₂ c₂ (core-word t k 8) 0 g₂))))
     where
       K : ℕ
       K = K-of t
@@ -212,10 +229,10 @@ module _ (t : List ℕ) where
       exact-then P Q (CoreFits k × Apart N c here) (Met N c′) (core-walk t (K-of t) N k met) (λ m. cores-walk t (K-of t) N (suc k) n m)
       (core-exact some k c met agrees) (λ h. (h .0 k (omega arith) (omega arith), apart-first N c here c′ behind (h .1)))
       (λ m h g. exact-as P Q P′ Q′ (cores-walk t (K-of t) N (suc k) n m)
-        (λ h′. (each-from (CoreFits) k n (h .0) (h′ .0), apart-both N c here c′ behind (grown (h .0)) (h .1) (h′ .1)))
-        (λ h′. (λ j l b. h′ .0 j (omega arith) (omega arith), apart-second N c here c′ behind (grown (h .0)) (h′ .1)))
-        (λ m′ h′. met-as N _ _ m′ (λ q. omega arith))
-        (cores-exact some n (suc k) c′ m g))
+      (λ h′. (each-from (CoreFits) k n (h .0) (h′ .0), apart-both N c here c′ behind (grown (h .0)) (h .1) (h′ .1)))
+      (λ h′. (λ j l b. h′ .0 j (omega arith) (omega arith), apart-second N c here c′ behind (grown (h .0)) (h′ .1)))
+      (λ m′. met-as N _ _ m′ (λ q. omega arith))
+      (cores-exact some n (suc k) c′ m g))
     where
       N : ℕ
       N = N-of t

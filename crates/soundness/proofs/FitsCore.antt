@@ -1,16 +1,15 @@
 -- The words of a core that belong to no queue fit exactly where they are those of a valid core.
 use Prim.Native.Nat.{ℕ, zero, suc, _+_, _≤_, _<_}
-use mathlib.Core.Path.{_≡_, refl, sym, ap, _∙_, subst}
-use mathlib.Core.Bool.{Bool, true, false, _&&_}
+use mathlib.Core.Path.{_≡_, refl}
+use mathlib.Core.Bool.{Bool, _&&_}
 use mathlib.Core.List.{List, [], _∷_}
 use native.Mathlib.Omega.{arith}
-use lib.Dec.{T, eqb, leb, eqb→eq, leb→le, le→leb, eqb·suc-zero, eqb-refl}
-use lib.ListN.{getD}
+use lib.Dec.{T, eqb, leb, eqb→eq, leb→le, le→leb, eqb·suc-zero}
 use Rattle.rules.specs.Lists.{if_then_else_, within, bit}
-use Rattle.rules.specs.State.{Work, Wiring}
-use Rattle.rules.specs.Packing.{work-words, N-of, core-at, core-word, work-from}
+use Rattle.rules.specs.State.{Wiring}
+use Rattle.rules.specs.Packing.{work-words, core-at, core-word, work-from}
 use Rattle.rules.specs.Soundness.{is-process, valid-work}
-use Rattle.packing.proofs.Reflect.{both, three, four, together, within-means}
+use Rattle.packing.proofs.Reflect.{both, three, four}
 use Rattle.soundness.proofs.Tests.{equal-holds, within-holds, all-three, all-four, zeros-mean, zeros-hold, bit-means, bit-holds}
 use Rattle.soundness.specs.Twin.{word, zeros, task-fits, core-fits}
 
@@ -60,7 +59,7 @@ module _ (w : Wiring) (t : List ℕ) (k : ℕ) where
   pub core-fits-means : T (core-fits t (w .N) k) → FlatCore w t k
   core-fits-means h =
       let r = four (work-fits (w .N) (core-word t k 0) (core-word t k 1) (core-word t k 2)) (leb (core-word t k 6) 32) (leb (core-word t k 7) 1)
-                (zeros t (core-at k 10) 6) h in
+      (zeros t (core-at k 10) 6) h in
       record {
         work = work-means w (core-word t k 0) (core-word t k 1) (core-word t k 2) (r .0);
         dispatch = leb→le (core-word t k 6) 32 (r .1);

@@ -1,20 +1,18 @@
 -- A table that fits holds the words of the state that is read out of it.
-use Prim.Native.Nat.{ℕ, zero, suc, _+_, _*_, _≤_, _<_}
+use Prim.Native.Nat.{ℕ, zero, suc, _+_, _≤_, _<_}
 use mathlib.Core.Path.{_≡_, refl, sym, ap, _∙_, subst}
-use mathlib.Core.Bool.{Bool, true, false, _&&_}
-use mathlib.Core.List.{List, [], _∷_, _++_, map}
+use mathlib.Core.Bool.{Bool, true, false}
+use mathlib.Core.List.{List, [], _++_}
 use native.Mathlib.Omega.{arith}
-use native.Mathlib.Nat.{zero-add, add-zero}
-use lib.Dec.{T, leb, eqb, lit<, eqb→eq}
+use native.Mathlib.Nat.{zero-add}
+use lib.Dec.{leb, lit<}
 use lib.ListN.{length, getD}
-use borrow.Author.Tests.{leb-true, leb-false, eqb-true, eqb-false}
-use Rattle.rules.specs.Lists.{within, total, tabulate, times, first, last, follows, bit}
+use borrow.Author.Tests.{leb-true, leb-false}
+use Rattle.rules.specs.Lists.{total, tabulate, times, first, last, follows}
 use Rattle.rules.specs.State.{Core, Process, Channel, queues-of, State}
-use Rattle.rules.specs.Items.{core-of, process-of, channel-of, no-core}
-use Rattle.rules.specs.SetUp.{room}
+use Rattle.rules.specs.Items.{core-of, process-of, no-core}
 use Rattle.rules.specs.Packing.{
   heads,
-  work-words,
   core-words,
   progress-words,
   next-link,
@@ -26,15 +24,10 @@ use Rattle.rules.specs.Packing.{
   K-of,
   N-of,
   M-of,
-  core-at,
-  process-at,
-  channel-at,
   core-word,
   process-word,
-  channel-word,
   view-core,
   view-process,
-  view-channel,
   view,
 }
 use Rattle.rules.specs.Soundness.{in-queues}
@@ -42,17 +35,15 @@ use Rattle.packing.proofs.Regions.{Holds}
 use Rattle.packing.proofs.Blocks.{dims, words-of}
 use Rattle.packing.proofs.Tabulate.{tabulate-at}
 use Rattle.packing.proofs.Reflect.{Valid, valid-means}
-use Rattle.packing.proofs.Sums.{positive-term, total-map}
+use Rattle.packing.proofs.Sums.{positive-term}
 use Rattle.packing.proofs.Chains.{next-follows, batch-follows}
 use Rattle.packing.proofs.Reading.{state-words, link-words}
 use Rattle.packing.proofs.ViewCore.{queue-words}
-use Rattle.soundness.proofs.Walks.{next-of, batch-of, batch-behind, Batch}
-use Rattle.soundness.proofs.CoreWalks.{CoreFits, chain-first, heads-of, heads-are}
+use Rattle.soundness.proofs.Walks.{next-of, batch-of, batch-behind}
+use Rattle.soundness.proofs.CoreWalks.{chain-first, heads-of, heads-are}
 use Rattle.soundness.proofs.Views.{cores-of-view, processes-of-view, channels-of-view, core-of-view, process-of-view, channel-of-view}
 use Rattle.soundness.proofs.FitsChannel.{channel-words-back}
-use Rattle.soundness.proofs.FitsCore.{FlatCore}
-use Rattle.soundness.proofs.FitsProcess.{FlatProcess, NoLinks}
-use Rattle.soundness.proofs.Fitting.{HeaderFits, header-processes, Fitting}
+use Rattle.soundness.proofs.Fitting.{header-processes, Fitting}
 use Rattle.soundness.proofs.Links.{linked-follows, last-from-zero, heads-in, no-next, no-head-link, no-batch-link, head-found, head-keeps}
 use Rattle.soundness.proofs.FitsValid.{batch-is, batch-from, batch-fits, heads-below, standing-once, flat-core, stands-linked, fits-valid}
 use Rattle.soundness.specs.Twin.{word}
@@ -125,22 +116,24 @@ module _ (t : List ℕ) (words : (i : ℕ) → getD t i 0 < 4294967296) (h : Fit
         let one : heads-in s p ≤ 1 = omega (arith, heads-below t some (h .cores) p, standing-once t words h p) in
         let batch : getD batches i [] ≡ batch-of t p = batch-from t some k d i (q .1) p (q .2) in
         let keeps : (f : List ℕ → ℕ) → head-link f s p ≡ f (batch-of t p) =
-          λ f. head-keeps s p f one k (c .1) i (q .1) (q .2) ∙ ap f batch in
+        λ f. head-keeps s p f one k (c .1) i (q .1) (q .2) ∙ ap f batch in
         let all-heads : heads batches ≡ heads-of t k = ap (λ (x : Core). heads (x .run-queue)) core ∙ heads-are t some k in
         let stands : 1 ≤ times p (heads-of t k) = omega (arith, c .2, ap (times p) all-heads) in
         let x = h .cores k d .batches in
-        let queue = x .each p stands .queue in
-        (keeps last ∙ sym (last-from-zero (batch-of t p)) ∙ sym (queue .last-is),
+        let queue = x .each p stands .queue in (
+          keeps last ∙ sym (last-from-zero (batch-of t p)) ∙ sym (queue .last-is),
           keeps length ∙ sym (zero-add (length (batch-of t p))) ∙ sym (queue .size-is) ∙ ap (word t) (omega arith),
           batch-follows s v k (c .1) p (c .2) ∙ ap (follows p) all-heads
-          ∙ linked-follows (batch-behind t) (core-word t k 8) (heads-of t k) (x .linked) p stands)
+              ∙ linked-follows (batch-behind t) (core-word t k 8) (heads-of t k) (x .linked) p stands,
+        )
 
     heads-none : heads-in s p ≡ 0 → HeadWords
     heads-none e =
-        let z = stands-linked t words h p l b .1 .batch e in
-        (no-head-link s p last e ∙ sym (z 0 (lit< tt)) ∙ ap (word t) (omega arith),
+        let z = stands-linked t words h p l b .1 .batch e in (
+          no-head-link s p last e ∙ sym (z 0 (lit< tt)) ∙ ap (word t) (omega arith),
           no-head-link s p length e ∙ sym (z 1 (lit< tt)) ∙ ap (word t) (omega arith),
-          no-batch-link s p e ∙ sym (z 2 (lit< tt)) ∙ ap (word t) (omega arith))
+          no-batch-link s p e ∙ sym (z 2 (lit< tt)) ∙ ap (word t) (omega arith),
+        )
 
     links-are : link-words s p ≡ tabulate (process-word t p) 20 4
     links-are = cases (leb 1 (heads-in s p)) refl
@@ -159,7 +152,7 @@ module _ (t : List ℕ) (words : (i : ℕ) → getD t i 0 < 4294967296) (h : Fit
         let r : process-of s p ≡ view-process t p = process-of-view t p l b in
         let state : state-words (process-of s p) ≡ tabulate (process-word t p) 0 6 = ap state-words r ∙ h .processes p l b .state in
         let progress : progress-words (process-of s p .progress) ≡ tabulate (process-word t p) 6 14 =
-          ap (λ (x : Process). progress-words (x .progress)) r ∙ h .processes p l b .words in
+        ap (λ (x : Process). progress-words (x .progress)) r ∙ h .processes p l b .words in
         λ i. state i ++ (progress i ++ links-are i)
 
   -- the words of a core
@@ -179,8 +172,20 @@ module _ (t : List ℕ) (words : (i : ℕ) → getD t i 0 < 4294967296) (h : Fit
       let last-head : last (heads (c .run-queue)) ≡ w 9 = ap last all-heads ∙ sym (last-from-zero (heads-of t k)) ∙ sym (fits .batches .last-is) in
       let unused : (f : ℕ) → f < 6 → 0 ≡ w (10 + f) = λ f b. sym (flat .unused f b) ∙ ap (word t) (omega arith) in
       let queues : queue-words c ≡ tabulate w 3 13 =
-        cc (first-active, last-active, size-active, flat .mark, first-head, last-head, unused 0 (lit< tt), unused 1 (lit< tt), unused 2 (lit< tt),
-          unused 3 (lit< tt), unused 4 (lit< tt), unused 5 (lit< tt)) in
+      cc (
+        first-active,
+        last-active,
+        size-active,
+        flat .mark,
+        first-head,
+        last-head,
+        unused 0 (lit< tt),
+        unused 1 (lit< tt),
+        unused 2 (lit< tt),
+        unused 3 (lit< tt),
+        unused 4 (lit< tt),
+        unused 5 (lit< tt),
+      ) in
       λ i. flat .work .1 i ++ queues i
 
   -- the header's words
@@ -188,8 +193,16 @@ module _ (t : List ℕ) (words : (i : ℕ) → getD t i 0 < 4294967296) (h : Fit
   unfolding header-words
   header-is =
       let unused = h .header .unused in
-      cc (cores-of-view t, processes-of-view t, channels-of-view t, unused 0 (lit< tt), unused 1 (lit< tt), unused 2 (lit< tt), unused 3 (lit< tt),
-        unused 4 (lit< tt))
+      cc (
+        cores-of-view t,
+        processes-of-view t,
+        channels-of-view t,
+        unused 0 (lit< tt),
+        unused 1 (lit< tt),
+        unused 2 (lit< tt),
+        unused 3 (lit< tt),
+        unused 4 (lit< tt),
+      )
 
   -- The table holds the words of the state.
   pub fits-holds : Holds (dims s) (words-of s) t
@@ -199,10 +212,10 @@ module _ (t : List ℕ) (words : (i : ℕ) → getD t i 0 < 4294967296) (h : Fit
         header = λ f b. block-word (word t) 8 f (header-words s) header-is b;
         core = λ k f b c. let d = inside k b in block-word (core-word t k) 16 f (core-words (core-of s k)) (ap core-words (core-of-view t k d) ∙ core-is k d) c;
         process = λ p f l b c.
-          let d : p ≤ N-of t = subst (λ (n : ℕ). p ≤ n) (processes-of-view t) b in
-          rw cores-of-view (block-word (process-word t p) 24 f (process-words s p) (process-is p l d) c);
+            let d : p ≤ N-of t = subst (λ (n : ℕ). p ≤ n) (processes-of-view t) b in
+            rw cores-of-view (block-word (process-word t p) 24 f (process-words s p) (process-is p l d) c);
         channel = λ c f l b d.
-          let e : c ≤ M-of t = subst (λ (n : ℕ). c ≤ n) (channels-of-view t) b in
-          rw (cores-of-view, processes-of-view)
-          (sym (ap (λ (x : Channel). getD (channel-words x) f 0) (channel-of-view t c l e) ∙ channel-words-back t c f d));
+            let e : c ≤ M-of t = subst (λ (n : ℕ). c ≤ n) (channels-of-view t) b in
+            rw (cores-of-view, processes-of-view)
+            (sym (ap (λ (x : Channel). getD (channel-words x) f 0) (channel-of-view t c l e) ∙ channel-words-back t c f d));
       }

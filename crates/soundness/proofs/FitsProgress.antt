@@ -1,17 +1,17 @@
 -- The words of a process's progress fit exactly where they are those of a valid progress.
-use Prim.Native.Nat.{ℕ, zero, suc, _+_, _-_, _≤_, _<_}
+use Prim.Native.Nat.{ℕ, zero, suc, _+_, _-_, _≤_}
 use mathlib.Core.Path.{_≡_, refl, sym, ap, _∙_, subst}
 use mathlib.Core.Bool.{Bool, true, false, _&&_, _||_}
 use mathlib.Core.List.{List, [], _∷_}
 use mathlib.Core.Logic.{_↔_}
-use mathlib.Core.Option.{Option, none, some}
+use mathlib.Core.Option.{none}
 use native.Mathlib.Omega.{arith}
 use native.Mathlib.Nat.{add-zero, sub-zero, suc-sub-suc}
 use lib.Dec.{T, eqb, leb, eqb→eq, leb→le, le→leb, eqb·suc-zero, leb·zero}
-use lib.ListN.{length, getD, take}
+use lib.ListN.{length, take}
 use borrow.Author.Tests.{leb-true, leb-false, le-leb}
 use Rattle.rules.specs.Lists.{if_then_else_, within, all, tabulate, member, distinct}
-use Rattle.rules.specs.State.{Place, sending, receiving, Progress, nothing, Wiring, wiring}
+use Rattle.rules.specs.State.{Place, sending, receiving, Progress, Wiring, wiring}
 use Rattle.rules.specs.Packing.{
   place-number,
   ready-number,
@@ -31,7 +31,7 @@ use Rattle.rules.specs.Soundness.{is-process, own-end, own-guards, in-list, rea
 use Rattle.packing.proofs.Tabulate.{length-tabulate}
 use Rattle.packing.proofs.Reflect.{both, three, five, together, within-means}
 use Rattle.soundness.proofs.Tests.{equal-holds, all-three, all-five, six, all-six}
-use Rattle.soundness.proofs.Views.{take-tabulate, tabulate-as, processes-of-view, end-place, own-end-is}
+use Rattle.soundness.proofs.Views.{take-tabulate, tabulate-as, processes-of-view, own-end-is}
 use Rattle.soundness.proofs.Shapes.{Shape, shape-words, shape-valid, shape-of}
 use Rattle.soundness.specs.Twin.{
   word,
@@ -42,7 +42,6 @@ use Rattle.soundness.specs.Twin.{
   has-guards,
   has-index,
   has-ready,
-  end-fits,
   stands-among,
   guards-fit,
   channel-part,
@@ -85,11 +84,12 @@ stands-among-is t x a (suc n) = ap (λ (b : Bool). eqb (word t a) x || b) (stand
 -- words that are 0
 zeros-exact : (t : List ℕ) (a n : ℕ) → T (zeros t a n) ↔ (padded n [] ≡ tabulate (word t) a n)
 zeros-exact t a zero = (λ h. refl, λ e. tt)
-zeros-exact t a (suc n) =
-    (λ h. let r = both (eqb (word t a) 0) (zeros t (suc a) n) h in
+zeros-exact t a (suc n) = (
+  λ h. let r = both (eqb (word t a) 0) (zeros t (suc a) n) h in
       let here : word t a ≡ 0 = eqb→eq (word t a) 0 (r .0) in
       let behind : padded n [] ≡ tabulate (word t) (suc a) n = zeros-exact t (suc a) n .0 (r .1) in cc,
-      λ e. together (eqb (word t a) 0) (zeros t (suc a) n) (equal-holds (word t a) 0 (cc)) (zeros-exact t (suc a) n .1 (cc)))
+  λ e. together (eqb (word t a) 0) (zeros t (suc a) n) (equal-holds (word t a) 0 (cc)) (zeros-exact t (suc a) n .1 (cc)),
+)
 
 -- the words of a list, then zeros
 padded-exact : (t : List ℕ) (a n g : ℕ) → g ≤ n → T (zeros t (a + g) (n - g)) ↔ (padded n (tabulate (word t) a g) ≡ tabulate (word t) a n)
@@ -102,16 +102,17 @@ padded-exact t a (suc n) (suc g) b =
 
 -- two tests and two facts, taken in another order
 regroup : (a b c x y : Bool) → T c ↔ (T x × T y) → T (a && b && c) ↔ (T (a && x) × T (b && y))
-regroup a b c x y r =
-    (λ h. let u = three a b c h in let v = r .0 (u .2) in (together a x (u .0) (v .0), together b y (u .1) (v .1)),
-      λ h. let u = both a x (h .0) in let v = both b y (h .1) in all-three a b c (u .0) (v .0) (r .1 (u .1, v .1)))
+regroup a b c x y r = (
+  λ h. let u = three a b c h in let v = r .0 (u .2) in (together a x (u .0) (v .0), together b y (u .1) (v .1)),
+  λ h. let u = both a x (h .0) in let v = both b y (h .1) in all-three a b c (u .0) (v .0) (r .1 (u .1, v .1)),
+)
 
 module _ (t : List ℕ) (p : ℕ) where
   -- guards fit where each is one's own and none stands twice
   guards-fit-exact : (a n : ℕ) → T (guards-fit t (K-of t) (N-of t) (M-of t) p a n)
       ↔ (T (all (own-end (wiring (view t)) receiving p) (tabulate (word t) a n)) × T (distinct (tabulate (word t) a n)))
   guards-fit-exact a zero = (λ h. (tt, tt), λ h. tt)
-  guards-fit-exact a (suc n) = rw (stands-among-is, ← own-end-is t receiving p (word t a)) 
+  guards-fit-exact a (suc n) = rw (stands-among-is, ← own-end-is t receiving p (word t a))
       (regroup (own-end w receiving p (word t a)) (if member (word t a) behind then false else true) (guards-fit t (K-of t) (N-of t) (M-of t) p (suc a) n)
       (all (own-end w receiving p) behind) (distinct behind) (guards-fit-exact (suc a) n))
     where
@@ -156,10 +157,12 @@ module _ (t : List ℕ) (p : ℕ) where
             let b = within-means 1 8 g (r .0) in
             let e : guards-read g ≡ tabulate (word t) a g = guards-are (b .1) in
             let size : length (guards-read g) ≡ g = ap length e ∙ length-tabulate (word t) a g in
-            let f = guards-fit-exact a g .0 (r .1) in
-            (all-three (within 1 8 (length (guards-read g))) (all (own-end w receiving p) (guards-read g)) (distinct (guards-read g))
-              (rw size (r .0)) (rw e (f .0)) (rw e (f .1)),
-              size, ap (padded 8) e ∙ padded-exact t a 8 g (b .1) .0 (r .2) ∙ sym guard-words)
+            let f = guards-fit-exact a g .0 (r .1) in (
+              all-three (within 1 8 (length (guards-read g))) (all (own-end w receiving p) (guards-read g)) (distinct (guards-read g))
+                  (rw size (r .0)) (rw e (f .0)) (rw e (f .1)),
+              size,
+              ap (padded 8) e ∙ padded-exact t a 8 g (b .1) .0 (r .2) ∙ sym guard-words,
+            )
 
         back : T (own-guards w p (guards-read g)) × (length (guards-read g) ≡ g) × (padded 8 (guards-read g) ≡ tabulate (process-word t p) 12 8)
             → T choice-fits
@@ -174,9 +177,10 @@ module _ (t : List ℕ) (p : ℕ) where
 
     -- no guards at all
     no-guards-exact : T (eqb g 0 && zeros t a 8) ↔ ((0 ≡ g) × (padded 8 [] ≡ tabulate (process-word t p) 12 8))
-    no-guards-exact =
-        (λ h. let r = both (eqb g 0) (zeros t a 8) h in (sym (eqb→eq g 0 (r .0)), zeros-exact t a 8 .0 (r .1) ∙ sym guard-words),
-          λ h. together (eqb g 0) (zeros t a 8) (equal-holds g 0 (sym (h .0))) (zeros-exact t a 8 .1 (h .1 ∙ guard-words)))
+    no-guards-exact = (
+      λ h. let r = both (eqb g 0) (zeros t a 8) h in (sym (eqb→eq g 0 (r .0)), zeros-exact t a 8 .0 (r .1) ∙ sym guard-words),
+      λ h. together (eqb g 0) (zeros t a 8) (equal-holds g 0 (sym (h .0))) (zeros-exact t a 8 .1 (h .1 ∙ guard-words)),
+    )
 
     -- the guards, where the progress has some or none
     GuardsRead : Bool → Type 0
@@ -272,9 +276,9 @@ module _ (t : List ℕ) (p : ℕ) where
         let index = index-exact size .0 (u .4) in
         let ready = ready-exact size .0 (u .5) in
         let valid : T (shape-valid w p c q gs i (ready-from r) n) =
-          all-five channel-valid partner-valid guards-valid index-valid ready-valid (channel .0) (partner .0) (guards .0) (index .0) (ready .0) in
+        all-five channel-valid partner-valid guards-valid index-valid ready-valid (channel .0) (partner .0) (guards .0) (index .0) (ready .0) in
         let words : shape-words w p c q gs i (ready-from r) n ≡ n ∷ c ∷ q ∷ g ∷ i ∷ r ∷ tabulate (process-word t p) 12 8 =
-          cc (channel .1, partner .1, guards .1, guards .2, index .1, ready .1) in
+        cc (channel .1, partner .1, guards .1, guards .2, index .1, ready .1) in
         (rw (s .valid) valid, s .words ∙ words)
 
     -- a number of a progress that has these words is one of 0 to 23
@@ -309,9 +313,10 @@ module _ (t : List ℕ) (p : ℕ) where
   -- The words of a progress fit exactly where they are those of a valid progress.
   pub progress-exact : T (progress-fits t (K-of t) (N-of t) (M-of t) p) ↔ (T (valid-progress w p x) × (progress-words x ≡ tabulate (process-word t p) 6 14))
   unfolding view-process
-  progress-exact =
-      (to (process-word t p 6) (process-word t p 7) (process-word t p 8) (process-word t p 9) (process-word t p 10) (process-word t p 11),
-        back (process-word t p 6) (process-word t p 7) (process-word t p 8) (process-word t p 9) (process-word t p 10) (process-word t p 11))
+  progress-exact = (
+    to (process-word t p 6) (process-word t p 7) (process-word t p 8) (process-word t p 9) (process-word t p 10) (process-word t p 11),
+    back (process-word t p 6) (process-word t p 7) (process-word t p 8) (process-word t p 9) (process-word t p 10) (process-word t p 11),
+  )
 
   -- A progress whose words fit goes with the places that its number goes with.
   pub places-are : T (progress-fits t (K-of t) (N-of t) (M-of t) p) → (y : Place) → fits y x ≡ place-fits (place-number y) (process-word t p 6)

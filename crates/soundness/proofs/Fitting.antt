@@ -2,20 +2,20 @@
 use Prim.Native.Nat.{ℕ, zero, suc, _+_, _≤_, _<_}
 use mathlib.Core.Path.{_≡_, refl, sym, ap, _∙_, subst}
 use mathlib.Core.Bool.{Bool, true, false, _&&_}
-use mathlib.Core.List.{List, [], _∷_}
+use mathlib.Core.List.{List}
 use mathlib.Core.Logic.{_↔_}
 use native.Mathlib.Omega.{arith}
 use native.Mathlib.Nat.{zero-add}
-use lib.Dec.{T, eqb, leb, eqb→eq, leb→le, le→leb}
+use lib.Dec.{T, eqb, leb, eqb→eq, le→leb}
 use lib.ListN.{length, getD, replicate, length-replicate, getD-replicate}
-use Rattle.rules.specs.Lists.{if_then_else_, within, all, total, tabulate, from}
+use Rattle.rules.specs.Lists.{if_then_else_, within, all, total, from}
 use Rattle.rules.specs.State.{wiring}
 use Rattle.rules.specs.SetUp.{room, sizes}
-use Rattle.rules.specs.Packing.{K-of, N-of, M-of, process-word, channel-word, view-core, view-channel, view}
+use Rattle.rules.specs.Packing.{K-of, N-of, M-of, process-word, view-channel, view}
 use Rattle.rules.specs.Soundness.{valid-channel}
 use Rattle.packing.proofs.Reflect.{both, four, three, together, within-means, all-from}
 use Rattle.soundness.proofs.Tests.{equal-holds, all-four, zeros-mean, zeros-hold, from-holds}
-use Rattle.soundness.proofs.Walks.{Exact, Met, Apart}
+use Rattle.soundness.proofs.Exact.{Exact, Met, Apart}
 use Rattle.soundness.proofs.CoreWalks.{standing, load, CoreFits, cores-exact}
 use Rattle.soundness.proofs.Views.{processes-of-view}
 use Rattle.soundness.proofs.FitsChannel.{channel-fits-is}
@@ -58,11 +58,12 @@ pub record HeaderFits (t : List ℕ) : Type 0 where
   pub unused : (i : ℕ) → i < 5 → word t (3 + i) ≡ 0
 
 pub header-exact : (t : List ℕ) → T (header-fits t) ↔ HeaderFits t
-header-exact t =
-    (λ h. let u = four (leb 8 (length t)) (sizes (K-of t) (N-of t) (M-of t)) (eqb (length t) size) (zeros t 3 5) h in
+header-exact t = (
+  λ h. let u = four (leb 8 (length t)) (sizes (K-of t) (N-of t) (M-of t)) (eqb (length t) size) (zeros t 3 5) h in
       record { sizes = u .1; length = eqb→eq (length t) size (u .2); unused = zeros-mean t 3 5 (u .3) },
-      λ h. all-four (leb 8 (length t)) (sizes (K-of t) (N-of t) (M-of t)) (eqb (length t) size) (zeros t 3 5)
-        (le→leb 8 (length t) (omega (arith, h .length))) (h .sizes) (equal-holds (length t) size (h .length)) (zeros-hold t 3 5 (h .unused)))
+  λ h. all-four (leb 8 (length t)) (sizes (K-of t) (N-of t) (M-of t)) (eqb (length t) size) (zeros t 3 5)
+      (le→leb 8 (length t) (omega (arith, h .length))) (h .sizes) (equal-holds (length t) size (h .length)) (zeros-hold t 3 5 (h .unused)),
+)
   where
     size : ℕ
     size = room (K-of t) (N-of t) (M-of t)
@@ -115,7 +116,7 @@ module _ (t : List ℕ) (words : (i : ℕ) → getD t i 0 < 4294967296) (header 
       let u = both (processes-fit t (K-of t) (N-of t) (M-of t) met 1 (N-of t)) (channels-fit t (K-of t) (N-of t) 1 (M-of t)) h in
       let each = all-from (process-fits t (K-of t) (N-of t) (M-of t) met) 1 (N-of t) (subst T (processes-fit-is t (K-of t) (N-of t) (M-of t) met 1 (N-of t)) (u .0)) in
       let part : (p : ℕ) (l : 1 ≤ p) (b : p ≤ N-of t) → FlatProcess t p × T (meeting-fits t (K-of t) p (process-word t p 0) (getD met p 0)) =
-        λ p l b. process-exact t met p .0 (each p l (omega arith)) in
+      λ p l b. process-exact t met p .0 (each p l (omega arith)) in
       let channel = all-from (channel-fits t (K-of t) (N-of t)) 1 (M-of t) (subst T (channels-fit-is t (K-of t) (N-of t) 1 (M-of t)) (u .1)) in
       record {
         header = header;

@@ -3,17 +3,17 @@
 use Prim.Native.Nat.{ℕ, zero, suc, _+_, _*_, _≤_, _<_}
 use mathlib.Core.Path.{_≡_, refl, sym, ap, _∙_, subst}
 use mathlib.Core.Bool.{Bool, true, false}
-use mathlib.Core.List.{List, [], _∷_, map}
+use mathlib.Core.List.{List, [], _∷_}
 use native.Mathlib.Omega.{arith}
 use lib.Dec.{eqb, eqb→eq}
 use lib.ListN.{length, getD}
-use borrow.Author.Tests.{eqb-true, eqb-false, eq-eqb, ne-eqb}
+use borrow.Author.Tests.{eqb-true, eq-eqb}
 use Rattle.rules.specs.Lists.{if_then_else_, total, bit, times, first, last, follows}
 use Rattle.rules.specs.State.{Core, queues-of, State}
 use Rattle.rules.specs.Items.{core-of, no-core}
 use Rattle.rules.specs.Packing.{heads, next-link, if-head, head-link, batch-link, chain}
 use Rattle.rules.specs.Soundness.{runs-it, on-cores, in-queues}
-use Rattle.packing.proofs.Sums.{total-le, term-le-total, positive-term, total-add, total-zero, total-only, total-map, Among, among-length, head-stands}
+use Rattle.packing.proofs.Sums.{total-le, term-le-total, positive-term, total-add, total-zero, total-only, total-map, Among, among-length}
 use Rattle.packing.proofs.Chains.{chain-back, follows-none}
 use Rattle.soundness.proofs.Tests.{bit-positive}
 use Rattle.soundness.proofs.Walks.{Linked, last-from}

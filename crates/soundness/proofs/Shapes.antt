@@ -1,15 +1,15 @@
 -- Which words of a progress mean something, by its number: for each of the 24 numbers, the words of the progress that is read out,
 -- when it is valid and which places it fits.
 use Prim.Native.Nat.{ℕ, zero, suc, _+_, _≤_, _<_}
-use mathlib.Core.Path.{_≡_, refl, sym, ap, _∙_, subst}
-use mathlib.Core.Bool.{Bool, true, false, _&&_, _||_}
+use mathlib.Core.Path.{_≡_, refl, sym, subst}
+use mathlib.Core.Bool.{Bool, true, _&&_, _||_}
 use mathlib.Core.List.{List, [], _∷_}
 use mathlib.Core.Option.{Option, none}
 use native.Mathlib.Omega.{arith}
 use native.Mathlib.Nat.{add-zero, zero-add}
 use lib.Dec.{T, leb, leb→le}
 use lib.ListN.{length, getD}
-use borrow.Author.Tests.{ne-eqb, eq-eqb, le-leb, lt-leb}
+use borrow.Author.Tests.{ne-eqb, le-leb, lt-leb}
 use Rattle.rules.specs.Lists.{if_then_else_, within}
 use Rattle.rules.specs.State.{
   Place,
@@ -122,28 +122,28 @@ module _ (w : Wiring) (p c q : ℕ) (gs : List ℕ) (i : ℕ) (r : Option ℕ) w
   unfolding progress-from progress-words
   shape-of n =
       let found = shape-at (row (record { words = refl; valid = refl; places = fits-nothing })
-        (row (stage 1 tt (look sending c) refl (simp and-true))
-        (row (stage 2 tt (park sending c) refl (simp and-true))
-        (row (stage 3 tt (copy sending c q) refl (simp and-true))
-        (row (stage 4 tt (clear sending c q) refl (simp and-true))
-        (row (stage 5 tt (wake sending c q) refl (simp and-true))
-        (row (stage 6 tt (look receiving c) refl (simp and-true))
-        (row (stage 7 tt (park receiving c) refl (simp and-true))
-        (row (stage 8 tt (copy receiving c q) refl (simp and-true))
-        (row (stage 9 tt (clear receiving c q) refl (simp and-true))
-        (row (stage 10 tt (wake receiving c q) refl (simp and-true))
-        (row (stage 11 tt (enable-look gs i) refl (simp and-true))
-        (row (stage 12 tt (raise gs i) refl (simp and-true))
-        (row (stage 13 tt (place-name gs i) refl (simp and-true))
-        (row (stage 14 tt (ready-from-look gs i) refl (simp and-true))
-        (row (stage 15 tt (ready-from-place gs i) refl (simp and-true))
-        (row (stage 16 tt (wait gs) refl (simp and-true))
-        (row (stage 17 tt (disable gs i r) refl refl)
-        (row (stage 18 tt (lower gs i r) refl refl)
-        (row (stage 19 tt (finish gs r) refl (simp and-true))
-        (row (outcome 20 tt go refl (simp and-true))
-        (row (outcome 21 tt (sent c) refl (simp and-true))
-        (row (outcome 22 tt (got c) refl (simp and-true))
-        (row (outcome 23 tt (chose c) refl (simp and-true))
-        end)))))))))))))))))))))))) n in
+      (row (stage 1 tt (look sending c) refl (simp and-true))
+      (row (stage 2 tt (park sending c) refl (simp and-true))
+      (row (stage 3 tt (copy sending c q) refl (simp and-true))
+      (row (stage 4 tt (clear sending c q) refl (simp and-true))
+      (row (stage 5 tt (wake sending c q) refl (simp and-true))
+      (row (stage 6 tt (look receiving c) refl (simp and-true))
+      (row (stage 7 tt (park receiving c) refl (simp and-true))
+      (row (stage 8 tt (copy receiving c q) refl (simp and-true))
+      (row (stage 9 tt (clear receiving c q) refl (simp and-true))
+      (row (stage 10 tt (wake receiving c q) refl (simp and-true))
+      (row (stage 11 tt (enable-look gs i) refl (simp and-true))
+      (row (stage 12 tt (raise gs i) refl (simp and-true))
+      (row (stage 13 tt (place-name gs i) refl (simp and-true))
+      (row (stage 14 tt (ready-from-look gs i) refl (simp and-true))
+      (row (stage 15 tt (ready-from-place gs i) refl (simp and-true))
+      (row (stage 16 tt (wait gs) refl (simp and-true))
+      (row (stage 17 tt (disable gs i r) refl refl)
+      (row (stage 18 tt (lower gs i r) refl refl)
+      (row (stage 19 tt (finish gs r) refl (simp and-true))
+      (row (outcome 20 tt go refl (simp and-true))
+      (row (outcome 21 tt (sent c) refl (simp and-true))
+      (row (outcome 22 tt (got c) refl (simp and-true))
+      (row (outcome 23 tt (chose c) refl (simp and-true))
+      end)))))))))))))))))))))))) n in
       (λ b. subst (λ (m : ℕ). Shape m (progress-from n c q gs i r)) (zero-add n) (found .0 (omega arith)), found .1)
