@@ -13,7 +13,6 @@ use Rattle.packing.proofs.Reflect.{both, together, within-means}
 use Rattle.soundness.proofs.Tests.{equal-holds, within-holds}
 use Rattle.soundness.specs.Twin.{fresh, Walk, flaw, well, and-then}
 
-
 -- Exact walks
 
 -- The walk finds no flaw exactly where P holds, and then what was met has the property Q.
@@ -129,4 +128,3 @@ pub met-one : (N : ℕ) (c : ℕ → ℕ) (met : List ℕ) → Met N c met → (
 met-one N c met agrees v p r =
     met-set N c met agrees (λ q. c q + v * one-more p q) p v (r .0) (r .1) (rw (one-here p) (omega (arith, r .2)))
     (λ q ne. rw (one-elsewhere p q ne) (omega arith))
-

@@ -44,8 +44,26 @@ use Rattle.soundness.proofs.CoreWalks.{chain-first, heads-of, heads-are
 use Rattle.soundness.proofs.Views.{cores-of-view, processes-of-view, channels-of-view, core-of-view, process-of-view, channel-of-view}
 use Rattle.soundness.proofs.FitsChannel.{channel-words-back}
 use Rattle.soundness.proofs.Fitting.{header-processes, Fitting}
-use Rattle.soundness.proofs.Links.{linked-follows, last-from-zero, heads-in, no-next, no-head-link, no-batch-link, head-found, head-keeps}
-use Rattle.soundness.proofs.FitsValid.{batch-is, batch-from, batch-fits, heads-below, standing-once, flat-core, stands-linked, fits-valid}
+use Rattle.soundness.proofs.Links.{
+  linked-follows,
+  last-from-zero,
+  heads-in,
+  no-next,
+  no-head-link,
+  no-batch-link,
+  head-found,
+  head-keeps,
+}
+use Rattle.soundness.proofs.FitsValid.{
+  batch-is,
+  batch-from,
+  batch-fits,
+  heads-below,
+  standing-once,
+  flat-core,
+  stands-linked,
+  fits-valid,
+}
 use Rattle.soundness.specs.Twin.{word}
 
 -- a word of a block whose words are these
@@ -53,12 +71,15 @@ block-word : (f : ℕ → ℕ) (n i : ℕ) (l : List ℕ) → l ≡ tabulate f 0
 block-word f n i l e b = sym (ap (λ (m : List ℕ). getD m i 0) e ∙ tabulate-at f 0 n 0 i b ∙ ap f (zero-add i))
 
 module _ (t : List ℕ) (words : (i : ℕ) → getD t i 0 < 4294967296) (h : Fitting t) where
+  -- the state that is read out
   abbrev s : State
   s = view t
 
+  -- there is a process
   some : 1 ≤ N-of t
   some = header-processes t (h .header) .0
 
+  -- the state is valid
   v : Valid s
   v = valid-means s (fits-valid t words h)
 
@@ -66,12 +87,16 @@ module _ (t : List ℕ) (words : (i : ℕ) → getD t i 0 < 4294967296) (h : Fit
   inside : (k : ℕ) → k < length (s .cores) → k < K-of t
   inside k b = subst (λ (n : ℕ). k < n) (cores-of-view t) b
 
-  -- what follows a process in a queue is its link
-  queue-follows : (k : ℕ) → k < K-of t → (i : ℕ) → i < length (queues-of (view-core t k)) → (p : ℕ) → 1 ≤ times p (getD (queues-of (view-core t k)) i [])
-      → follows p (getD (queues-of (view-core t k)) i []) ≡ process-word t p 20
-  queue-follows k b zero c p m =
+  -- what follows p in a queue of this core is p's link
+  abbrev LinkFollows : ℕ → Core → Type 0
+  LinkFollows p x =
+      (i : ℕ) → i < length (queues-of x) → 1 ≤ times p (getD (queues-of x) i []) → follows p (getD (queues-of x) i []) ≡ process-word t p 20
+
+  -- it is, on each core that fits
+  queue-follows : (k : ℕ) → k < K-of t → (p : ℕ) → LinkFollows p (view-core t k)
+  queue-follows k b p zero c m =
       linked-follows (next-of t) (core-word t k 3) (view-core t k .active) (h .cores k b .active .linked) p m
-  queue-follows k b (suc i) c p m =
+  queue-follows k b p (suc i) c m =
       let l = getD (view-core t k .run-queue) i [] in
       let e : l ≡ batch-of t (first l) = batch-is t some k i (omega arith) in
       let x = batch-fits t some (h .cores) k i b (omega arith) in
@@ -79,7 +104,7 @@ module _ (t : List ℕ) (words : (i : ℕ) → getD t i 0 < 4294967296) (h : Fit
       ∙ linked-follows (next-of t) (first l) (batch-of t (first l)) (x .queue .linked) p (omega (arith, ap (times p) e))
 
   module _ (p : ℕ) (l : 1 ≤ p) (b : p ≤ N-of t) where
-    -- next
+    -- the word 20: who follows
     next-is : next-link s p ≡ process-word t p 20
     unfolding in-queues
     next-is = cases (leb 1 (in-queues s p)) refl
@@ -89,9 +114,9 @@ module _ (t : List ℕ) (words : (i : ℕ) → getD t i 0 < 4294967296) (h : Fit
             let c = positive-term (λ (c : Core). total (times p) (queues-of c)) (s .cores) no-core m in
             let k = c .0 in
             let q = positive-term (times p) (queues-of (core-of s k)) [] (c .2) in
+            let d = inside k (c .1) in
             next-follows s v k (c .1) (q .0) (q .1) p (q .2)
-            ∙ subst (λ (x : Core). (i : ℕ) → i < length (queues-of x) → 1 ≤ times p (getD (queues-of x) i []) → follows p (getD (queues-of x) i []) ≡ process-word t p 20)
-            (sym (core-of-view t k (inside k (c .1)))) (λ i d m. queue-follows k (inside k (c .1)) i d p m) (q .0) (q .1) (q .2)
+            ∙ subst (LinkFollows p) (sym (core-of-view t k d)) (queue-follows k d p) (q .0) (q .1) (q .2)
 
         cases : (y : Bool) → leb 1 (in-queues s p) ≡ y → next-link s p ≡ process-word t p 20
         cases true e = found (leb-true 1 (in-queues s p) e)
@@ -99,10 +124,12 @@ module _ (t : List ℕ) (words : (i : ℕ) → getD t i 0 < 4294967296) (h : Fit
             let none : in-queues s p ≡ 0 = omega (arith, leb-false 1 (in-queues s p) e) in
             no-next s p none ∙ sym (stands-linked t words h p l b .1 .next none)
 
-    -- the words of a batch's head
+    -- the words 21 to 23: what a batch's head keeps
     abbrev HeadWords : Type 0
-    HeadWords = (head-link last s p ≡ process-word t p 21) × (head-link length s p ≡ process-word t p 22) × (batch-link s p ≡ process-word t p 23)
+    HeadWords =
+        (head-link last s p ≡ process-word t p 21) × (head-link length s p ≡ process-word t p 22) × (batch-link s p ≡ process-word t p 23)
 
+    -- of a process that heads a batch
     heads-found : 1 ≤ heads-in s p → HeadWords
     unfolding heads-in
     heads-found m =
@@ -127,6 +154,7 @@ module _ (t : List ℕ) (words : (i : ℕ) → getD t i 0 < 4294967296) (h : Fit
               ∙ linked-follows (batch-behind t) (core-word t k 8) (heads-of t k) (x .linked) p stands,
         )
 
+    -- of one that heads none
     heads-none : heads-in s p ≡ 0 → HeadWords
     heads-none e =
         let z = stands-linked t words h p l b .1 .batch e in (
@@ -135,6 +163,7 @@ module _ (t : List ℕ) (words : (i : ℕ) → getD t i 0 < 4294967296) (h : Fit
           no-batch-link s p e ∙ sym (z 2 (lit< tt)) ∙ ap (word t) (omega arith),
         )
 
+    -- the link words of a process
     links-are : link-words s p ≡ tabulate (process-word t p) 20 4
     links-are = cases (leb 1 (heads-in s p)) refl
       where
@@ -167,9 +196,11 @@ module _ (t : List ℕ) (words : (i : ℕ) → getD t i 0 < 4294967296) (h : Fit
       let all-heads : heads (c .run-queue) ≡ heads-of t k = heads-are t some k in
       let first-active : first (c .active) ≡ w 3 = chain-first link (N-of t) (w 3) some in
       let last-active : last (c .active) ≡ w 4 = sym (last-from-zero (c .active)) ∙ sym (fits .active .last-is) in
-      let size-active : length (c .active) ≡ w 5 = sym (zero-add (length (c .active))) ∙ sym (fits .active .size-is) ∙ ap (word t) (omega arith) in
+      let size-active : length (c .active) ≡ w 5 =
+      sym (zero-add (length (c .active))) ∙ sym (fits .active .size-is) ∙ ap (word t) (omega arith) in
       let first-head : first (heads (c .run-queue)) ≡ w 8 = ap first all-heads ∙ chain-first (batch-behind t) (N-of t) (w 8) some in
-      let last-head : last (heads (c .run-queue)) ≡ w 9 = ap last all-heads ∙ sym (last-from-zero (heads-of t k)) ∙ sym (fits .batches .last-is) in
+      let last-head : last (heads (c .run-queue)) ≡ w 9 =
+      ap last all-heads ∙ sym (last-from-zero (heads-of t k)) ∙ sym (fits .batches .last-is) in
       let unused : (f : ℕ) → f < 6 → 0 ≡ w (10 + f) = λ f b. sym (flat .unused f b) ∙ ap (word t) (omega arith) in
       let queues : queue-words c ≡ tabulate w 3 13 =
       cc (
@@ -210,7 +241,9 @@ module _ (t : List ℕ) (words : (i : ℕ) → getD t i 0 < 4294967296) (h : Fit
       record {
         size = rw (cores-of-view, processes-of-view, channels-of-view) (h .header .length);
         header = λ f b. block-word (word t) 8 f (header-words s) header-is b;
-        core = λ k f b c. let d = inside k b in block-word (core-word t k) 16 f (core-words (core-of s k)) (ap core-words (core-of-view t k d) ∙ core-is k d) c;
+        core = λ k f b c.
+            let d = inside k b in
+            block-word (core-word t k) 16 f (core-words (core-of s k)) (ap core-words (core-of-view t k d) ∙ core-is k d) c;
         process = λ p f l b c.
             let d : p ≤ N-of t = subst (λ (n : ℕ). p ≤ n) (processes-of-view t) b in
             rw cores-of-view (block-word (process-word t p) 24 f (process-words s p) (process-is p l d) c);

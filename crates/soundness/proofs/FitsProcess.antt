@@ -40,12 +40,15 @@ pub record FlatProcess (t : List ℕ) (p : ℕ) : Type 0 where
   pub words : progress-words (view-process t p .progress) ≡ tabulate (process-word t p) 6 14
 
 module _ (t met : List ℕ) (p : ℕ) where
+  -- the words of the process
   abbrev w : ℕ → ℕ
   w = process-word t p
 
+  -- the test of what was met
   abbrev meeting : Bool
   meeting = meeting-fits t (K-of t) p (w 0) (getD met p 0)
 
+  -- the test of the progress
   abbrev progress : Bool
   progress = progress-fits t (K-of t) (N-of t) (M-of t) p
 
@@ -78,7 +81,8 @@ module _ (t met : List ℕ) (p : ℕ) where
           let good : T (place-fits (w 0) (w 6)) = rw (places-are t p x, place) at (h .0 .places) in
           together (leb (w 2) 1 && leb (w 3) 1 && leb (w 4) 1 && leb (w 5) 9 && place-fits (w 0) (w 6) && meeting) progress
           (all-six (leb (w 2) 1) (leb (w 3) 1) (leb (w 4) 1) (leb (w 5) 9) (place-fits (w 0) (w 6)) meeting
-          (bit-holds (eqb (w 2) 1) (w 2) (cc)) (bit-holds (eqb (w 3) 1) (w 3) (cc)) (bit-holds (eqb (w 4) 1) (w 4) (cc)) (le→leb (w 5) 9 (h .0 .count)) good (h .1)) x
+          (bit-holds (eqb (w 2) 1) (w 2) (cc)) (bit-holds (eqb (w 3) 1) (w 3) (cc)) (bit-holds (eqb (w 4) 1) (w 4) (cc))
+          (le→leb (w 5) 9 (h .0 .count)) good (h .1)) x
 
 -- Meeting
 
@@ -88,11 +92,12 @@ pub record NoLinks (t : List ℕ) (K p queues heads : ℕ) : Type 0 where
   pub batch : heads ≡ 0 → (f : ℕ) → f < 3 → word t (process-at K p 21 + f) ≡ 0
 
 -- where a process stands, as a test of its place's number: nowhere, on a core, in a queue
-pub record PlaceTests (y : Place) : Type 0 where
-  pub nowhere : stands 0 0 y ≡ leb 3 (place-number y)
-  pub on-core : stands 1 0 y ≡ eqb (place-number y) 1
-  pub in-queue : stands 0 1 y ≡ eqb (place-number y) 2
+record PlaceTests (y : Place) : Type 0 where
+  nowhere : stands 0 0 y ≡ leb 3 (place-number y)
+  on-core : stands 1 0 y ≡ eqb (place-number y) 1
+  in-queue : stands 0 1 y ≡ eqb (place-number y) 2
 
+-- the place of each number
 place-tests : (y : Place) → PlaceTests y
 place-tests running = record { nowhere = refl; on-core = refl; in-queue = refl }
 place-tests queued = record { nowhere = refl; on-core = refl; in-queue = refl }
@@ -131,7 +136,8 @@ module _ (t : List ℕ) (K p : ℕ) where
   meeting-exact (suc zero) zero zero y b c = both-exact (eqb (place-number y) 1) (stands 1 0 y) _ _ (place-tests y .on-core) no-links
   meeting-exact zero (suc zero) zero y b c = both-exact (eqb (place-number y) 2) (stands 0 1 y) _ _ (place-tests y .in-queue) no-batch-links
   meeting-exact zero (suc zero) (suc zero) y b c =
-      (λ h. (rw (place-tests y .in-queue) h, record { next = λ e. absurd (omega arith); batch = λ e. absurd (omega arith) }), λ h. rw (place-tests y .in-queue) at (h .0))
+      let e = place-tests y .in-queue in
+      (λ h. (rw e h, record { next = λ e. absurd (omega arith); batch = λ e. absurd (omega arith) }), λ h. rw e at (h .0))
   meeting-exact zero zero (suc heads) y b c = absurd (omega arith)
   meeting-exact zero (suc zero) (suc (suc heads)) y b c = absurd (omega arith)
   meeting-exact zero (suc (suc queues)) heads y b c = absurd (omega arith)

@@ -99,12 +99,14 @@ runs-range w q (runs p) h b = subst (λ (n : ℕ). (1 ≤ n) × (n ≤ w .N)) (e
 runs-range w q (free x) h b = absurd (omega arith)
 
 module _ (t : List ℕ) (good : T (valid (view t))) (packed : pack (view t) ≡ t) where
+  -- the state that is read out, and its wiring
   abbrev s : State
   s = view t
 
   abbrev w : Wiring
   w = wiring (view t)
 
+  -- the state is valid
   v : Valid s
   v = valid-means s good
 
@@ -128,6 +130,7 @@ module _ (t : List ℕ) (good : T (valid (view t))) (packed : pack (view t) ≡ 
             ∙ second-part (w .K ∷ w .N ∷ length (s .channels) ∷ []) (replicate 5 0) 3 i refl ∙ getD-replicate 5 i 0 0 b;
       }
 
+  -- there is a process
   some : 1 ≤ N-of t
   some = header-processes t header-fits .0
 
@@ -136,18 +139,21 @@ module _ (t : List ℕ) (good : T (valid (view t))) (packed : pack (view t) ≡ 
   links p l b f c = subst (λ (u : List ℕ). process-word u p (20 + f) ≡ getD (link-words s p) f 0) packed (link-word s p l b f c)
 
   module _ (k : ℕ) (b : k < K-of t) where
+    -- the core is one of the state
     inside : k < length (s .cores)
     inside = subst (λ (n : ℕ). k < n) (sym (cores-of-view t)) b
 
+    -- namely this
     core : core-of s k ≡ view-core t k
     core = core-of-view t k b
 
-    -- the words of the core
+    -- the words of its work
     work-words-are : (f : ℕ) → f < 3 → core-word t k f ≡ getD (work-words (view-core t k .work)) f 0
     work-words-are f d =
         subst (λ (u : List ℕ). core-word u k f ≡ getD (work-words (view-core t k .work)) f 0) packed
         (work-word s v k inside f d ∙ ap (λ (x : Core). getD (work-words (x .work)) f 0) core)
 
+    -- the words behind its work
     queue-words-are : (f : ℕ) → f < 13 → core-word t k (3 + f) ≡ getD (queue-words (view-core t k)) f 0
     queue-words-are f d =
         subst (λ (u : List ℕ). core-word u k (3 + f) ≡ getD (queue-words (view-core t k)) f 0) packed
@@ -160,7 +166,8 @@ module _ (t : List ℕ) (good : T (valid (view t))) (packed : pack (view t) ≡ 
         record {
           work = (
             subst (λ (x : Core). T (valid-work w (x .work))) core (v .cores k inside .work),
-            words-block (core-word t k) 0 3 (work-words (view-core t k .work)) (length-work-words (view-core t k .work)) (λ i d. ap (core-word t k) (zero-add i) ∙ work-words-are i d),
+            words-block (core-word t k) 0 3 (work-words (view-core t k .work)) (length-work-words (view-core t k .work))
+                (λ i d. ap (core-word t k) (zero-add i) ∙ work-words-are i d),
           );
           dispatch = subst (λ (x : Core). x .dispatch ≤ 32) core (v .cores k inside .dispatch);
           mark = sym (queue-words-are 4 (lit< tt));
@@ -187,10 +194,11 @@ module _ (t : List ℕ) (good : T (valid (view t))) (packed : pack (view t) ≡ 
         (chain-first (next-of t) (N-of t) p some)
         (subst (λ (m : List ℕ). Linked (next-of t) (first m) m) e h)
 
+    -- the heads of its batches
     heads-eq : heads (core-of s k .run-queue) ≡ heads-of t k
     heads-eq = ap (λ (x : Core). heads (x .run-queue)) core ∙ heads-are t some k
 
-    -- and so are the heads of its batches
+    -- they are linked, too
     heads-linked : Linked (batch-behind t) (core-word t k 8) (heads-of t k)
     heads-linked =
         let a = heads-among s v k inside in
@@ -224,6 +232,7 @@ module _ (t : List ℕ) (good : T (valid (view t))) (packed : pack (view t) ≡ 
           };
         }
 
+    -- it fits
     core-here : CoreFits t k
     unfolding view-core
     core-here =
@@ -259,19 +268,26 @@ module _ (t : List ℕ) (good : T (valid (view t))) (packed : pack (view t) ≡ 
         r .0,
         subst (λ (n : ℕ). q ≤ n) (processes-of-view t) (r .1),
         refl,
-        omega (arith, standing-is s q, stands-total (on-cores s q) (in-queues s q) (process-of s q .place) (v .processes q (r .0) (r .1) .stands)),
+        omega (
+          arith,
+          standing-is s q,
+          stands-total (on-cores s q) (in-queues s q) (process-of s q .place) (v .processes q (r .0) (r .1) .stands),
+        ),
       )
 
   module _ (p : ℕ) (l : 1 ≤ p) (b : p ≤ N-of t) where
+    -- the process is one of the state
     exists : p ≤ length (s .processes)
     exists = subst (λ (n : ℕ). p ≤ n) (sym (processes-of-view t)) b
 
+    -- namely this
     process : process-of s p ≡ view-process t p
     process = process-of-view t p l b
 
     -- words of its own that are packed from the a-th word on
     read-is : (f : Process → List ℕ) (a n : ℕ) → length (f (process-of s p)) ≡ n
-        → ((i : ℕ) → i < n → process-word (pack s) p (a + i) ≡ getD (f (process-of s p)) i 0) → f (view-process t p) ≡ tabulate (process-word t p) a n
+        → ((i : ℕ) → i < n → process-word (pack s) p (a + i) ≡ getD (f (process-of s p)) i 0)
+        → f (view-process t p) ≡ tabulate (process-word t p) a n
     read-is f a n size e =
         ap f (sym process) ∙ words-block (process-word (pack s) p) a n (f (process-of s p)) size e
         ∙ ap (λ (u : List ℕ). tabulate (process-word u p) a n) packed

@@ -13,9 +13,28 @@ use Rattle.rules.specs.Packing.{K-of, N-of, process-at, core-word, process-word
 use Rattle.packing.proofs.Reflect.{both, three, together, within-means}
 use Rattle.packing.proofs.Sums.{head-stands}
 use Rattle.soundness.proofs.Tests.{equal-holds, within-holds, all-three}
-use Rattle.soundness.proofs.Exact.{Exact, exact-if, exact-then, exact-as, Met, met-as, Apart, Grown, apart-first, apart-second, apart-both, fresh-means, means-fresh, met-set, one-more, one-here, one-elsewhere, apart-one, met-one}
+use Rattle.soundness.proofs.Exact.{
+  Exact,
+  exact-if,
+  exact-then,
+  exact-as,
+  Met,
+  met-as,
+  Apart,
+  Grown,
+  apart-first,
+  apart-second,
+  apart-both,
+  fresh-means,
+  means-fresh,
+  met-set,
+  one-more,
+  one-here,
+  one-elsewhere,
+  apart-one,
+  met-one,
+}
 use Rattle.soundness.specs.Twin.{word, fresh, Walk, flaw, well, and-then, chain-walk, batch-walk}
-
 
 -- from p on, the links go over the list, and end behind it
 abbrev pub Linked : (ℕ → ℕ) → ℕ → List ℕ → Type 0
