@@ -197,9 +197,11 @@ module _ (t : List ℕ) (p : ℕ) where
 
   -- A progress of the number n, with these words: channel, partner, number of guards, index, first ready guard
   module _ (n c q g i r : ℕ) where
+    -- its guards
     abbrev gs : List ℕ
     gs = guards-read g
 
+    -- the progress that is read out of these words
     abbrev read : Progress
     read = progress-from n c q gs i (ready-from r)
 
@@ -314,7 +316,9 @@ module _ (t : List ℕ) (p : ℕ) where
   pub progress-exact : T (progress-fits t (K-of t) (N-of t) (M-of t) p)
       ↔ (T (valid-progress w p progress-read) × (progress-words progress-read ≡ tabulate (process-word t p) 6 14))
   unfolding view-process
-  progress-exact = let f = process-word t p in (tests-mean (f 6) (f 7) (f 8) (f 9) (f 10) (f 11), means-tests (f 6) (f 7) (f 8) (f 9) (f 10) (f 11))
+  progress-exact =
+      let f = process-word t p in
+      (tests-mean (f 6) (f 7) (f 8) (f 9) (f 10) (f 11), means-tests (f 6) (f 7) (f 8) (f 9) (f 10) (f 11))
 
   -- A progress whose words fit goes with the places that its number goes with.
   pub places-are : T (progress-fits t (K-of t) (N-of t) (M-of t) p) → (y : Place)

@@ -21,7 +21,7 @@ use Rattle.soundness.specs.Twin.{end-fits}
 
 module _ {A : Type 0} where
   -- the n-th, counted from 1
-  pub tabulate-nth-at : (f : ℕ → A) (n i : ℕ) (d : A) → 1 ≤ i → i ≤ n → nth (tabulate f 1 n) i d ≡ f i
+  tabulate-nth-at : (f : ℕ → A) (n i : ℕ) (d : A) → 1 ≤ i → i ≤ n → nth (tabulate f 1 n) i d ≡ f i
   tabulate-nth-at f n zero d l b = absurd (omega arith)
   tabulate-nth-at f n (suc i) d l b = tabulate-at f 1 n d i b ∙ ap f (omega arith)
 
@@ -48,6 +48,7 @@ end-of-channel s way (suc c) = ap (at-end way) (List·getD-map (λ (x : Channel)
 -- The view
 
 module _ (t : List ℕ) where
+  -- how many cores, processes and channels there are
   pub cores-of-view : length (view t .cores) ≡ K-of t
   unfolding view
   cores-of-view = length-tabulate (view-core t) 0 (K-of t)

@@ -58,7 +58,7 @@ first-stands link p [] h b q = absurd (omega arith)
 first-stands link p (x ∷ xs) h b q = omega (arith, ap (λ (y : ℕ). one-more y q) (h .0))
 
 -- what holds of a number, and of each in a list, holds of each in both
-pub each-more : (C : ℕ → Type 0) (x : ℕ) (xs : List ℕ) → C x → ((y : ℕ) → 1 ≤ times y xs → C y) → (y : ℕ) → 1 ≤ times y (x ∷ xs) → C y
+each-more : (C : ℕ → Type 0) (x : ℕ) (xs : List ℕ) → C x → ((y : ℕ) → 1 ≤ times y xs → C y) → (y : ℕ) → 1 ≤ times y (x ∷ xs) → C y
 each-more C x xs here rest y b = cases (eqb x y) refl
   where
     cases : (t : Bool) → eqb x y ≡ t → C y
