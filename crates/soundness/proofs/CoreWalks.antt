@@ -1,19 +1,18 @@
 -- The walks over a core and over all cores are exact: what they look for, for the cores that are read out of the table.
 use Prim.Native.Nat.{ℕ, zero, suc, _+_, _*_, _≤_, _<_}
-use mathlib.Core.Path.{_≡_, refl, sym, ap, _∙_, subst}
-use mathlib.Core.Bool.{Bool, true, false, _&&_}
+use mathlib.Core.Path.{_≡_, refl, ap, subst}
+use mathlib.Core.Bool.{Bool, true, false}
 use mathlib.Core.List.{List, [], _∷_, map}
 use native.Mathlib.Omega.{arith}
-use lib.Dec.{T, eqb, leb, eqb·suc-zero}
-use lib.ListN.{length, getD, set}
-use borrow.Author.Tests.{eqb-true, eqb-false, leb-true, leb-false, eq-eqb, ne-eqb}
-use Rattle.rules.specs.Lists.{if_then_else_, within, total, tabulate, bit, times, first}
-use Rattle.rules.specs.State.{runs, free, Core, queues-of}
-use Rattle.rules.specs.Packing.{heads, K-of, N-of, core-at, process-at, core-word, chain, work-from, view-core}
+use lib.Dec.{T, eqb, eqb·suc-zero}
+use lib.ListN.{set}
+use borrow.Author.Tests.{eqb-true, eqb-false}
+use Rattle.rules.specs.Lists.{if_then_else_, total, tabulate, times, first}
+use Rattle.rules.specs.State.{Core, queues-of}
+use Rattle.rules.specs.Packing.{heads, K-of, N-of, core-at, core-word, chain, work-from, view-core}
 use Rattle.rules.specs.Soundness.{runs-it}
-use Rattle.packing.proofs.Reflect.{both}
 use Rattle.packing.proofs.Sums.{head-stands}
-use Rattle.soundness.proofs.Walks.{
+use Rattle.soundness.proofs.Exact.{
   Exact,
   exact-if,
   exact-then,
@@ -26,27 +25,40 @@ use Rattle.soundness.proofs.Walks.{
   apart-both,
   fresh-means,
   means-fresh,
-  Linked,
-  first-stands,
-  Queue,
   one-more,
   apart-one,
   one-here,
   met-as,
   met-one,
+}
+use Rattle.soundness.proofs.Walks.{
+  first-stands,
+  Queue,
   next-of,
   QueueFrom,
   MetFrom,
   chain-exact,
   batch-behind,
   batch-of,
-  Batch,
   Heads,
   HeadsFrom,
   MetHeads,
   batch-exact,
 }
-use Rattle.soundness.specs.Twin.{word, core-fits, fresh, Walk, flaw, well, and-then, meet-running, chain-walk, batch-walk, core-walk, cores-walk}
+use Rattle.soundness.specs.Twin.{
+  word,
+  core-fits,
+  fresh,
+  Walk,
+  flaw,
+  well,
+  and-then,
+  meet-running,
+  chain-walk,
+  batch-walk,
+  core-walk,
+  cores-walk,
+}
 
 -- how often a process stands on a core or in its queues
 abbrev pub standing : ℕ → Core → ℕ
@@ -71,7 +83,8 @@ heads-back f (x ∷ xs) e =
     cc
 
 -- numbers that stand in their lists stand in all of these at least as often as among themselves
-members-stand : (f : ℕ → List ℕ) (q : ℕ) (l : List ℕ) → ((h : ℕ) → 1 ≤ times h l → one-more h q ≤ times q (f h)) → times q l ≤ total (times q) (map f l)
+members-stand : (f : ℕ → List ℕ) (q : ℕ) (l : List ℕ) → ((h : ℕ) → 1 ≤ times h l → one-more h q ≤ times q (f h))
+    → times q l ≤ total (times q) (map f l)
 members-stand f q [] e = omega arith
 members-stand f q (x ∷ xs) e = omega (arith, e x (omega (arith, head-stands x xs)), members-stand f q xs (λ h b. e h (omega arith)))
 
@@ -81,7 +94,9 @@ running-exact : (N : ℕ) (c : ℕ → ℕ) (met : List ℕ) → Met N c met →
     (if eqb p 0 then well met else if fresh N met p then well (set met p 1) else flaw)
 running-exact N c met agrees zero task q = (λ x b. absurd (omega arith), met-as N c _ met (λ x. omega arith) agrees)
 running-exact N c met agrees (suc p) task q =
-    rw eqb·suc-zero (exact-if (Apart N c (one-more (suc p))) (Met N (λ x. c x + one-more (suc p) x)) (fresh N met (suc p)) (well (set met (suc p) 1)) need rest)
+    rw eqb·suc-zero
+    (exact-if (Apart N c (one-more (suc p))) (Met N (λ x. c x + one-more (suc p) x)) (fresh N met (suc p)) (well (set met (suc p) 1))
+    need rest)
   where
     need : Apart N c (one-more (suc p)) → T (fresh N met (suc p))
     need a = let r = a (suc p) (omega (arith, one-here (suc p))) in means-fresh N c met agrees (suc p) (r .0) (r .1) (r .2)
@@ -117,31 +132,38 @@ module _ (t : List ℕ) where
       heads-back (batch-of t) (heads-of k) (λ h. chain-first (next-of t) (N-of t) h some)
 
   -- a head stands in its batch
-  pub heads-stand : 1 ≤ N-of t → (k : ℕ) → CoreFits k → (q : ℕ) → times q (heads (view-core t k .run-queue)) ≤ total (times q) (view-core t k .run-queue)
+  pub heads-stand : 1 ≤ N-of t → (k : ℕ) → CoreFits k → (q : ℕ)
+      → times q (heads (view-core t k .run-queue)) ≤ total (times q) (view-core t k .run-queue)
   unfolding view-core
   heads-stand some k h q =
       let link = next-of t in
       let batch = batch-of t in
       let e = h .batches .each in
-      omega (arith, ap (times q) (heads-are some k),
-        members-stand batch q (heads-of k) (λ x b. first-stands link x (batch x) (e x b .queue .linked) (e x b .low) q))
+      omega (
+        arith,
+        ap (times q) (heads-are some k),
+        members-stand batch q (heads-of k) (λ x b. first-stands link x (batch x) (e x b .queue .linked) (e x b .low) q),
+      )
 
   -- A core is found exactly.
   core-exact : 1 ≤ N-of t → (k : ℕ) (c : ℕ → ℕ) (met : List ℕ) → Met (N-of t) c met
-      → Exact (CoreFits k × Apart (N-of t) c (λ q. standing q (view-core t k))) (Met (N-of t) (λ q. c q + load q (view-core t k))) (core-walk t (K-of t) (N-of t) k met)
+      → Exact (CoreFits k × Apart (N-of t) c (λ q. standing q (view-core t k))) (Met (N-of t) (λ q. c q + load q (view-core t k)))
+      (core-walk t (K-of t) (N-of t) k met)
   unfolding view-core
   core-exact some k c met agrees =
       exact-if P Q (core-fits t N k) walk (λ h. h .0 .flat)
       (λ f. exact-then P Q (Apart N c running) (Met N c₁) (meet-running t N k met) after-running
-        (running-exact N c met agrees (core-word t k 0) (core-word t k 1) (core-word t k 2)) (λ h. apart-first N c running c₁ queues (h .1))
-        (λ m₁ a₁ g₁. exact-then P Q P₂ Q₂ (chain-walk t K N (core-at k 4) N m₁ (core-word t k 3) 0 0) after-active
-          (chain-exact t (core-at k 4) N m₁ c₁ (core-word t k 3) 0 0 g₁)
-          (λ h. (h .0 .active, apart-first N c₁ active c₂ batches (apart-second N c running c₁ queues grown₁ (h .1))))
-          (λ m₂ h₂ g₂. exact-as P Q P₃ Q₃ (after-active m₂)
-            (λ h. (record { flat = f; active = h₂ .0; batches = h .0 },
-              apart-both N c running c₁ queues grown₁ a₁ (apart-both N c₁ active c₂ batches grown₂ (h₂ .1) (h .1))))
-            (λ h. (h .0 .batches, apart-second N c₁ active c₂ batches grown₂ (apart-second N c running c₁ queues grown₁ (h .1))))
-            (λ m h. met-as N _ _ m (λ q. omega (arith, ap (times q) (heads-are some k)))) (batch-exact t k N m₂ c₂ (core-word t k 8) 0 g₂))))
+      (running-exact N c met agrees (core-word t k 0) (core-word t k 1) (core-word t k 2)) (λ h. apart-first N c running c₁ queues (h .1))
+      (λ m₁ a₁ g₁. exact-then P Q P₂ Q₂ (chain-walk t K N (core-at k 4) N m₁ (core-word t k 3) 0 0) after-active
+      (chain-exact t (core-at k 4) N m₁ c₁ (core-word t k 3) 0 0 g₁)
+      (λ h. (h .0 .active, apart-first N c₁ active c₂ batches (apart-second N c running c₁ queues grown₁ (h .1))))
+      (λ m₂ h₂ g₂. exact-as P Q P₃ Q₃ (after-active m₂)
+      (λ h. (
+        record { flat = f; active = h₂ .0; batches = h .0 },
+        apart-both N c running c₁ queues grown₁ a₁ (apart-both N c₁ active c₂ batches grown₂ (h₂ .1) (h .1)),
+      ))
+      (λ h. (h .0 .batches, apart-second N c₁ active c₂ batches grown₂ (apart-second N c running c₁ queues grown₁ (h .1))))
+      (λ m. met-as N _ _ m (λ q. omega (arith, ap (times q) (heads-are some k)))) (batch-exact t k N m₂ c₂ (core-word t k 8) 0 g₂))))
     where
       K : ℕ
       K = K-of t
@@ -155,7 +177,7 @@ module _ (t : List ℕ) where
       Q : List ℕ → Type 0
       Q = Met N (λ q. c q + load q (view-core t k))
 
-      -- how often a process is running, in the active queue, in the batches
+      -- how often a process is running, then in the active queue, in the batches, in both
       running : ℕ → ℕ
       running q = runs-it q (view-core t k .work)
 
@@ -175,18 +197,21 @@ module _ (t : List ℕ) where
       c₂ : ℕ → ℕ
       c₂ q = c₁ q + 2 * active q
 
+      -- what the walk over the active queue finds, and what is met then
       P₂ : Type 0
       P₂ = QueueFrom t (core-at k 4) N c₁ (core-word t k 3) 0 0
 
       Q₂ : List ℕ → Type 0
       Q₂ = MetFrom t (core-at k 4) N c₁ (core-word t k 3)
 
+      -- what the walk over the batches finds, and what is met then
       P₃ : Type 0
       P₃ = HeadsFrom t k N c₂ (core-word t k 8) 0
 
       Q₃ : List ℕ → Type 0
       Q₃ = MetHeads t k N c₂ (core-word t k 8)
 
+      -- the walks that are left after the active queue, after the running process, and at first
       after-active : List ℕ → Walk
       after-active m = batch-walk t K N k N m (core-word t k 8) 0
 
@@ -212,20 +237,22 @@ module _ (t : List ℕ) where
       exact-then P Q (CoreFits k × Apart N c here) (Met N c′) (core-walk t (K-of t) N k met) (λ m. cores-walk t (K-of t) N (suc k) n m)
       (core-exact some k c met agrees) (λ h. (h .0 k (omega arith) (omega arith), apart-first N c here c′ behind (h .1)))
       (λ m h g. exact-as P Q P′ Q′ (cores-walk t (K-of t) N (suc k) n m)
-        (λ h′. (each-from (CoreFits) k n (h .0) (h′ .0), apart-both N c here c′ behind (grown (h .0)) (h .1) (h′ .1)))
-        (λ h′. (λ j l b. h′ .0 j (omega arith) (omega arith), apart-second N c here c′ behind (grown (h .0)) (h′ .1)))
-        (λ m′ h′. met-as N _ _ m′ (λ q. omega arith))
-        (cores-exact some n (suc k) c′ m g))
+      (λ h′. (each-from CoreFits k n (h .0) (h′ .0), apart-both N c here c′ behind (grown (h .0)) (h .1) (h′ .1)))
+      (λ h′. (λ j l b. h′ .0 j (omega arith) (omega arith), apart-second N c here c′ behind (grown (h .0)) (h′ .1)))
+      (λ m′. met-as N _ _ m′ (λ q. omega arith))
+      (cores-exact some n (suc k) c′ m g))
     where
       N : ℕ
       N = N-of t
 
+      -- how often a process stands on the first core, and on those behind
       here : ℕ → ℕ
       here q = standing q (view-core t k)
 
       behind : ℕ → ℕ
       behind q = total (standing q) (tabulate (view-core t) (suc k) n)
 
+      -- what is counted with the first core
       c′ : ℕ → ℕ
       c′ q = c q + load q (view-core t k)
 

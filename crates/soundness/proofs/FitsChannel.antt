@@ -1,16 +1,16 @@
 -- A channel of a table fits exactly where the channel that is read out of it is valid, and its words are read out whatever they are.
-use Prim.Native.Nat.{ℕ, zero, suc, _+_, _*_, _/_, _%_, _≤_, _<_}
-use mathlib.Core.Path.{_≡_, refl, sym, ap, _∙_}
-use mathlib.Core.Bool.{Bool, true, false, _&&_, _||_}
-use mathlib.Core.List.{List, [], _∷_}
+use Prim.Native.Nat.{ℕ, zero, suc, _/_, _%_, _<_}
+use mathlib.Core.Path.{_≡_, refl, sym}
+use mathlib.Core.Bool.{Bool, true, false, _||_}
+use mathlib.Core.List.{List}
 use native.Mathlib.Omega.{arith}
-use lib.Dec.{T, eqb, ltb}
+use lib.Dec.{eqb}
 use lib.ListN.{getD}
 use borrow.Author.Tests.{eqb-true, eqb-false, lt-ltb}
-use Rattle.rules.specs.Lists.{if_then_else_, within, tabulate}
-use Rattle.rules.specs.State.{nobody, plain, choosing, Channel, Wiring}
+use Rattle.rules.specs.Lists.{if_then_else_, within}
+use Rattle.rules.specs.State.{nobody, plain, choosing, Wiring}
 use Rattle.rules.specs.Packing.{word-number, word-from, K-of, N-of, channel-word, channel-words, view-channel}
-use Rattle.rules.specs.Soundness.{is-process, valid-word, valid-channel}
+use Rattle.rules.specs.Soundness.{valid-word, valid-channel}
 use Rattle.soundness.proofs.Tests.{and-true}
 use Rattle.soundness.specs.Twin.{channel-fits}
 

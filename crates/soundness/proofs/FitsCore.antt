@@ -1,16 +1,15 @@
 -- The words of a core that belong to no queue fit exactly where they are those of a valid core.
 use Prim.Native.Nat.{ℕ, zero, suc, _+_, _≤_, _<_}
-use mathlib.Core.Path.{_≡_, refl, sym, ap, _∙_, subst}
-use mathlib.Core.Bool.{Bool, true, false, _&&_}
+use mathlib.Core.Path.{_≡_, refl}
+use mathlib.Core.Bool.{Bool, _&&_}
 use mathlib.Core.List.{List, [], _∷_}
 use native.Mathlib.Omega.{arith}
-use lib.Dec.{T, eqb, leb, eqb→eq, leb→le, le→leb, eqb·suc-zero, eqb-refl}
-use lib.ListN.{getD}
+use lib.Dec.{T, eqb, leb, eqb→eq, leb→le, le→leb, eqb·suc-zero}
 use Rattle.rules.specs.Lists.{if_then_else_, within, bit}
-use Rattle.rules.specs.State.{Work, Wiring}
-use Rattle.rules.specs.Packing.{work-words, N-of, core-at, core-word, work-from}
+use Rattle.rules.specs.State.{Wiring}
+use Rattle.rules.specs.Packing.{work-words, core-at, core-word, work-from}
 use Rattle.rules.specs.Soundness.{is-process, valid-work}
-use Rattle.packing.proofs.Reflect.{both, three, four, together, within-means}
+use Rattle.packing.proofs.Reflect.{both, three, four}
 use Rattle.soundness.proofs.Tests.{equal-holds, within-holds, all-three, all-four, zeros-mean, zeros-hold, bit-means, bit-holds}
 use Rattle.soundness.specs.Twin.{word, zeros, task-fits, core-fits}
 
@@ -23,6 +22,7 @@ abbrev pub GoodWork : Wiring → ℕ → ℕ → ℕ → Type 0
 GoodWork w p task q = T (valid-work w (work-from p task q)) × (work-words (work-from p task q) ≡ p ∷ task ∷ q ∷ [])
 
 module _ (w : Wiring) where
+  -- the work that is read out of words that fit
   work-means : (p task q : ℕ) → T (work-fits (w .N) p task q) → GoodWork w p task q
   work-means zero zero q h = (tt, let e : q ≡ 0 = eqb→eq q 0 h in cc)
   work-means zero (suc zero) q h = (h, refl)
@@ -37,6 +37,7 @@ module _ (w : Wiring) where
       let nobody : q ≡ 0 = eqb→eq q 0 (r .2) in
       rw eqb·suc-zero (within-holds 1 (w .N) (suc p) (omega arith) (leb→le (suc p) (w .N) (r .0)), (cc))
 
+  -- words that such work is read out of fit
   means-work : (p task q : ℕ) → GoodWork w p task q → T (work-fits (w .N) p task q)
   means-work zero zero q h = equal-holds q 0 (let e = h .1 in cc)
   means-work zero (suc zero) q h = h .0
@@ -57,10 +58,11 @@ pub record FlatCore (w : Wiring) (t : List ℕ) (k : ℕ) : Type 0 where
   pub unused : (f : ℕ) → f < 6 → word t (core-at k 10 + f) ≡ 0
 
 module _ (w : Wiring) (t : List ℕ) (k : ℕ) where
+  -- What the test of these words says,
   pub core-fits-means : T (core-fits t (w .N) k) → FlatCore w t k
   core-fits-means h =
       let r = four (work-fits (w .N) (core-word t k 0) (core-word t k 1) (core-word t k 2)) (leb (core-word t k 6) 32) (leb (core-word t k 7) 1)
-                (zeros t (core-at k 10) 6) h in
+      (zeros t (core-at k 10) 6) h in
       record {
         work = work-means w (core-word t k 0) (core-word t k 1) (core-word t k 2) (r .0);
         dispatch = leb→le (core-word t k 6) 32 (r .1);
@@ -68,6 +70,7 @@ module _ (w : Wiring) (t : List ℕ) (k : ℕ) where
         unused = zeros-mean t (core-at k 10) 6 (r .3);
       }
 
+  -- and what says as much.
   pub means-core-fits : FlatCore w t k → T (core-fits t (w .N) k)
   means-core-fits h =
       all-four (work-fits (w .N) (core-word t k 0) (core-word t k 1) (core-word t k 2)) (leb (core-word t k 6) 32) (leb (core-word t k 7) 1)

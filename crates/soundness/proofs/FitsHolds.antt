@@ -1,20 +1,18 @@
 -- A table that fits holds the words of the state that is read out of it.
-use Prim.Native.Nat.{ℕ, zero, suc, _+_, _*_, _≤_, _<_}
+use Prim.Native.Nat.{ℕ, zero, suc, _+_, _≤_, _<_}
 use mathlib.Core.Path.{_≡_, refl, sym, ap, _∙_, subst}
-use mathlib.Core.Bool.{Bool, true, false, _&&_}
-use mathlib.Core.List.{List, [], _∷_, _++_, map}
+use mathlib.Core.Bool.{Bool, true, false}
+use mathlib.Core.List.{List, [], _++_}
 use native.Mathlib.Omega.{arith}
-use native.Mathlib.Nat.{zero-add, add-zero}
-use lib.Dec.{T, leb, eqb, lit<, eqb→eq}
+use native.Mathlib.Nat.{zero-add}
+use lib.Dec.{leb, lit<}
 use lib.ListN.{length, getD}
-use borrow.Author.Tests.{leb-true, leb-false, eqb-true, eqb-false}
-use Rattle.rules.specs.Lists.{within, total, tabulate, times, first, last, follows, bit}
+use borrow.Author.Tests.{leb-true, leb-false}
+use Rattle.rules.specs.Lists.{total, tabulate, times, first, last, follows}
 use Rattle.rules.specs.State.{Core, Process, Channel, queues-of, State}
-use Rattle.rules.specs.Items.{core-of, process-of, channel-of, no-core}
-use Rattle.rules.specs.SetUp.{room}
+use Rattle.rules.specs.Items.{core-of, process-of, no-core}
 use Rattle.rules.specs.Packing.{
   heads,
-  work-words,
   core-words,
   progress-words,
   next-link,
@@ -26,15 +24,10 @@ use Rattle.rules.specs.Packing.{
   K-of,
   N-of,
   M-of,
-  core-at,
-  process-at,
-  channel-at,
   core-word,
   process-word,
-  channel-word,
   view-core,
   view-process,
-  view-channel,
   view,
 }
 use Rattle.rules.specs.Soundness.{in-queues}
@@ -42,19 +35,35 @@ use Rattle.packing.proofs.Regions.{Holds}
 use Rattle.packing.proofs.Blocks.{dims, words-of}
 use Rattle.packing.proofs.Tabulate.{tabulate-at}
 use Rattle.packing.proofs.Reflect.{Valid, valid-means}
-use Rattle.packing.proofs.Sums.{positive-term, total-map}
+use Rattle.packing.proofs.Sums.{positive-term}
 use Rattle.packing.proofs.Chains.{next-follows, batch-follows}
 use Rattle.packing.proofs.Reading.{state-words, link-words}
 use Rattle.packing.proofs.ViewCore.{queue-words}
-use Rattle.soundness.proofs.Walks.{next-of, batch-of, batch-behind, Batch}
-use Rattle.soundness.proofs.CoreWalks.{CoreFits, chain-first, heads-of, heads-are}
+use Rattle.soundness.proofs.Walks.{next-of, batch-of, batch-behind}
+use Rattle.soundness.proofs.CoreWalks.{chain-first, heads-of, heads-are}
 use Rattle.soundness.proofs.Views.{cores-of-view, processes-of-view, channels-of-view, core-of-view, process-of-view, channel-of-view}
 use Rattle.soundness.proofs.FitsChannel.{channel-words-back}
-use Rattle.soundness.proofs.FitsCore.{FlatCore}
-use Rattle.soundness.proofs.FitsProcess.{FlatProcess, NoLinks}
-use Rattle.soundness.proofs.Fitting.{HeaderFits, header-processes, Fitting}
-use Rattle.soundness.proofs.Links.{linked-follows, last-from-zero, heads-in, no-next, no-head-link, no-batch-link, head-found, head-keeps}
-use Rattle.soundness.proofs.FitsValid.{batch-is, batch-from, batch-fits, heads-below, standing-once, flat-core, stands-linked, fits-valid}
+use Rattle.soundness.proofs.Fitting.{header-processes, Fitting}
+use Rattle.soundness.proofs.Links.{
+  linked-follows,
+  last-from-zero,
+  heads-in,
+  no-next,
+  no-head-link,
+  no-batch-link,
+  head-found,
+  head-keeps,
+}
+use Rattle.soundness.proofs.FitsValid.{
+  batch-is,
+  batch-from,
+  batch-fits,
+  heads-below,
+  standing-once,
+  flat-core,
+  stands-linked,
+  fits-valid,
+}
 use Rattle.soundness.specs.Twin.{word}
 
 -- a word of a block whose words are these
@@ -62,12 +71,15 @@ block-word : (f : ℕ → ℕ) (n i : ℕ) (l : List ℕ) → l ≡ tabulate f 0
 block-word f n i l e b = sym (ap (λ (m : List ℕ). getD m i 0) e ∙ tabulate-at f 0 n 0 i b ∙ ap f (zero-add i))
 
 module _ (t : List ℕ) (words : (i : ℕ) → getD t i 0 < 4294967296) (h : Fitting t) where
+  -- the state that is read out
   abbrev s : State
   s = view t
 
+  -- there is a process
   some : 1 ≤ N-of t
   some = header-processes t (h .header) .0
 
+  -- the state is valid
   v : Valid s
   v = valid-means s (fits-valid t words h)
 
@@ -75,12 +87,16 @@ module _ (t : List ℕ) (words : (i : ℕ) → getD t i 0 < 4294967296) (h : Fit
   inside : (k : ℕ) → k < length (s .cores) → k < K-of t
   inside k b = subst (λ (n : ℕ). k < n) (cores-of-view t) b
 
-  -- what follows a process in a queue is its link
-  queue-follows : (k : ℕ) → k < K-of t → (i : ℕ) → i < length (queues-of (view-core t k)) → (p : ℕ) → 1 ≤ times p (getD (queues-of (view-core t k)) i [])
-      → follows p (getD (queues-of (view-core t k)) i []) ≡ process-word t p 20
-  queue-follows k b zero c p m =
+  -- what follows p in a queue of this core is p's link
+  abbrev LinkFollows : ℕ → Core → Type 0
+  LinkFollows p x =
+      (i : ℕ) → i < length (queues-of x) → 1 ≤ times p (getD (queues-of x) i []) → follows p (getD (queues-of x) i []) ≡ process-word t p 20
+
+  -- it is, on each core that fits
+  queue-follows : (k : ℕ) → k < K-of t → (p : ℕ) → LinkFollows p (view-core t k)
+  queue-follows k b p zero c m =
       linked-follows (next-of t) (core-word t k 3) (view-core t k .active) (h .cores k b .active .linked) p m
-  queue-follows k b (suc i) c p m =
+  queue-follows k b p (suc i) c m =
       let l = getD (view-core t k .run-queue) i [] in
       let e : l ≡ batch-of t (first l) = batch-is t some k i (omega arith) in
       let x = batch-fits t some (h .cores) k i b (omega arith) in
@@ -88,7 +104,7 @@ module _ (t : List ℕ) (words : (i : ℕ) → getD t i 0 < 4294967296) (h : Fit
       ∙ linked-follows (next-of t) (first l) (batch-of t (first l)) (x .queue .linked) p (omega (arith, ap (times p) e))
 
   module _ (p : ℕ) (l : 1 ≤ p) (b : p ≤ N-of t) where
-    -- next
+    -- the word 20: who follows
     next-is : next-link s p ≡ process-word t p 20
     unfolding in-queues
     next-is = cases (leb 1 (in-queues s p)) refl
@@ -98,9 +114,9 @@ module _ (t : List ℕ) (words : (i : ℕ) → getD t i 0 < 4294967296) (h : Fit
             let c = positive-term (λ (c : Core). total (times p) (queues-of c)) (s .cores) no-core m in
             let k = c .0 in
             let q = positive-term (times p) (queues-of (core-of s k)) [] (c .2) in
+            let d = inside k (c .1) in
             next-follows s v k (c .1) (q .0) (q .1) p (q .2)
-            ∙ subst (λ (x : Core). (i : ℕ) → i < length (queues-of x) → 1 ≤ times p (getD (queues-of x) i []) → follows p (getD (queues-of x) i []) ≡ process-word t p 20)
-            (sym (core-of-view t k (inside k (c .1)))) (λ i d m. queue-follows k (inside k (c .1)) i d p m) (q .0) (q .1) (q .2)
+            ∙ subst (LinkFollows p) (sym (core-of-view t k d)) (queue-follows k d p) (q .0) (q .1) (q .2)
 
         cases : (y : Bool) → leb 1 (in-queues s p) ≡ y → next-link s p ≡ process-word t p 20
         cases true e = found (leb-true 1 (in-queues s p) e)
@@ -108,10 +124,12 @@ module _ (t : List ℕ) (words : (i : ℕ) → getD t i 0 < 4294967296) (h : Fit
             let none : in-queues s p ≡ 0 = omega (arith, leb-false 1 (in-queues s p) e) in
             no-next s p none ∙ sym (stands-linked t words h p l b .1 .next none)
 
-    -- the words of a batch's head
+    -- the words 21 to 23: what a batch's head keeps
     abbrev HeadWords : Type 0
-    HeadWords = (head-link last s p ≡ process-word t p 21) × (head-link length s p ≡ process-word t p 22) × (batch-link s p ≡ process-word t p 23)
+    HeadWords =
+        (head-link last s p ≡ process-word t p 21) × (head-link length s p ≡ process-word t p 22) × (batch-link s p ≡ process-word t p 23)
 
+    -- of a process that heads a batch
     heads-found : 1 ≤ heads-in s p → HeadWords
     unfolding heads-in
     heads-found m =
@@ -125,23 +143,27 @@ module _ (t : List ℕ) (words : (i : ℕ) → getD t i 0 < 4294967296) (h : Fit
         let one : heads-in s p ≤ 1 = omega (arith, heads-below t some (h .cores) p, standing-once t words h p) in
         let batch : getD batches i [] ≡ batch-of t p = batch-from t some k d i (q .1) p (q .2) in
         let keeps : (f : List ℕ → ℕ) → head-link f s p ≡ f (batch-of t p) =
-          λ f. head-keeps s p f one k (c .1) i (q .1) (q .2) ∙ ap f batch in
+        λ f. head-keeps s p f one k (c .1) i (q .1) (q .2) ∙ ap f batch in
         let all-heads : heads batches ≡ heads-of t k = ap (λ (x : Core). heads (x .run-queue)) core ∙ heads-are t some k in
         let stands : 1 ≤ times p (heads-of t k) = omega (arith, c .2, ap (times p) all-heads) in
         let x = h .cores k d .batches in
-        let queue = x .each p stands .queue in
-        (keeps last ∙ sym (last-from-zero (batch-of t p)) ∙ sym (queue .last-is),
+        let queue = x .each p stands .queue in (
+          keeps last ∙ sym (last-from-zero (batch-of t p)) ∙ sym (queue .last-is),
           keeps length ∙ sym (zero-add (length (batch-of t p))) ∙ sym (queue .size-is) ∙ ap (word t) (omega arith),
           batch-follows s v k (c .1) p (c .2) ∙ ap (follows p) all-heads
-          ∙ linked-follows (batch-behind t) (core-word t k 8) (heads-of t k) (x .linked) p stands)
+              ∙ linked-follows (batch-behind t) (core-word t k 8) (heads-of t k) (x .linked) p stands,
+        )
 
+    -- of one that heads none
     heads-none : heads-in s p ≡ 0 → HeadWords
     heads-none e =
-        let z = stands-linked t words h p l b .1 .batch e in
-        (no-head-link s p last e ∙ sym (z 0 (lit< tt)) ∙ ap (word t) (omega arith),
+        let z = stands-linked t words h p l b .1 .batch e in (
+          no-head-link s p last e ∙ sym (z 0 (lit< tt)) ∙ ap (word t) (omega arith),
           no-head-link s p length e ∙ sym (z 1 (lit< tt)) ∙ ap (word t) (omega arith),
-          no-batch-link s p e ∙ sym (z 2 (lit< tt)) ∙ ap (word t) (omega arith))
+          no-batch-link s p e ∙ sym (z 2 (lit< tt)) ∙ ap (word t) (omega arith),
+        )
 
+    -- the link words of a process
     links-are : link-words s p ≡ tabulate (process-word t p) 20 4
     links-are = cases (leb 1 (heads-in s p)) refl
       where
@@ -159,7 +181,7 @@ module _ (t : List ℕ) (words : (i : ℕ) → getD t i 0 < 4294967296) (h : Fit
         let r : process-of s p ≡ view-process t p = process-of-view t p l b in
         let state : state-words (process-of s p) ≡ tabulate (process-word t p) 0 6 = ap state-words r ∙ h .processes p l b .state in
         let progress : progress-words (process-of s p .progress) ≡ tabulate (process-word t p) 6 14 =
-          ap (λ (x : Process). progress-words (x .progress)) r ∙ h .processes p l b .words in
+        ap (λ (x : Process). progress-words (x .progress)) r ∙ h .processes p l b .words in
         λ i. state i ++ (progress i ++ links-are i)
 
   -- the words of a core
@@ -174,13 +196,27 @@ module _ (t : List ℕ) (words : (i : ℕ) → getD t i 0 < 4294967296) (h : Fit
       let all-heads : heads (c .run-queue) ≡ heads-of t k = heads-are t some k in
       let first-active : first (c .active) ≡ w 3 = chain-first link (N-of t) (w 3) some in
       let last-active : last (c .active) ≡ w 4 = sym (last-from-zero (c .active)) ∙ sym (fits .active .last-is) in
-      let size-active : length (c .active) ≡ w 5 = sym (zero-add (length (c .active))) ∙ sym (fits .active .size-is) ∙ ap (word t) (omega arith) in
+      let size-active : length (c .active) ≡ w 5 =
+      sym (zero-add (length (c .active))) ∙ sym (fits .active .size-is) ∙ ap (word t) (omega arith) in
       let first-head : first (heads (c .run-queue)) ≡ w 8 = ap first all-heads ∙ chain-first (batch-behind t) (N-of t) (w 8) some in
-      let last-head : last (heads (c .run-queue)) ≡ w 9 = ap last all-heads ∙ sym (last-from-zero (heads-of t k)) ∙ sym (fits .batches .last-is) in
+      let last-head : last (heads (c .run-queue)) ≡ w 9 =
+      ap last all-heads ∙ sym (last-from-zero (heads-of t k)) ∙ sym (fits .batches .last-is) in
       let unused : (f : ℕ) → f < 6 → 0 ≡ w (10 + f) = λ f b. sym (flat .unused f b) ∙ ap (word t) (omega arith) in
       let queues : queue-words c ≡ tabulate w 3 13 =
-        cc (first-active, last-active, size-active, flat .mark, first-head, last-head, unused 0 (lit< tt), unused 1 (lit< tt), unused 2 (lit< tt),
-          unused 3 (lit< tt), unused 4 (lit< tt), unused 5 (lit< tt)) in
+      cc (
+        first-active,
+        last-active,
+        size-active,
+        flat .mark,
+        first-head,
+        last-head,
+        unused 0 (lit< tt),
+        unused 1 (lit< tt),
+        unused 2 (lit< tt),
+        unused 3 (lit< tt),
+        unused 4 (lit< tt),
+        unused 5 (lit< tt),
+      ) in
       λ i. flat .work .1 i ++ queues i
 
   -- the header's words
@@ -188,8 +224,16 @@ module _ (t : List ℕ) (words : (i : ℕ) → getD t i 0 < 4294967296) (h : Fit
   unfolding header-words
   header-is =
       let unused = h .header .unused in
-      cc (cores-of-view t, processes-of-view t, channels-of-view t, unused 0 (lit< tt), unused 1 (lit< tt), unused 2 (lit< tt), unused 3 (lit< tt),
-        unused 4 (lit< tt))
+      cc (
+        cores-of-view t,
+        processes-of-view t,
+        channels-of-view t,
+        unused 0 (lit< tt),
+        unused 1 (lit< tt),
+        unused 2 (lit< tt),
+        unused 3 (lit< tt),
+        unused 4 (lit< tt),
+      )
 
   -- The table holds the words of the state.
   pub fits-holds : Holds (dims s) (words-of s) t
@@ -197,12 +241,14 @@ module _ (t : List ℕ) (words : (i : ℕ) → getD t i 0 < 4294967296) (h : Fit
       record {
         size = rw (cores-of-view, processes-of-view, channels-of-view) (h .header .length);
         header = λ f b. block-word (word t) 8 f (header-words s) header-is b;
-        core = λ k f b c. let d = inside k b in block-word (core-word t k) 16 f (core-words (core-of s k)) (ap core-words (core-of-view t k d) ∙ core-is k d) c;
+        core = λ k f b c.
+            let d = inside k b in
+            block-word (core-word t k) 16 f (core-words (core-of s k)) (ap core-words (core-of-view t k d) ∙ core-is k d) c;
         process = λ p f l b c.
-          let d : p ≤ N-of t = subst (λ (n : ℕ). p ≤ n) (processes-of-view t) b in
-          rw cores-of-view (block-word (process-word t p) 24 f (process-words s p) (process-is p l d) c);
+            let d : p ≤ N-of t = subst (λ (n : ℕ). p ≤ n) (processes-of-view t) b in
+            rw cores-of-view (block-word (process-word t p) 24 f (process-words s p) (process-is p l d) c);
         channel = λ c f l b d.
-          let e : c ≤ M-of t = subst (λ (n : ℕ). c ≤ n) (channels-of-view t) b in
-          rw (cores-of-view, processes-of-view)
-          (sym (ap (λ (x : Channel). getD (channel-words x) f 0) (channel-of-view t c l e) ∙ channel-words-back t c f d));
+            let e : c ≤ M-of t = subst (λ (n : ℕ). c ≤ n) (channels-of-view t) b in
+            rw (cores-of-view, processes-of-view)
+            (sym (ap (λ (x : Channel). getD (channel-words x) f 0) (channel-of-view t c l e) ∙ channel-words-back t c f d));
       }

@@ -32,7 +32,7 @@ module _ (t : List ℕ) (words : (i : ℕ) → getD t i 0 < 4294967296) where
       let f = table-exact t words .0 h in
       let s = view t in
       let same = held-once (dims s) (words-of s) (words-of s) t (pack s) (fits-holds t words f) (pack-holds s)
-        (record { header = λ f b. refl; core = λ k f b c. refl; process = λ p f l b c. refl; channel = λ c f l b d. refl }) in
+      (record { header = λ f b. refl; core = λ k f b c. refl; process = λ p f l b c. refl; channel = λ c f l b d. refl }) in
       sound-means t .1 (s, fits-valid t words f, same)
 
   -- a sound table fits

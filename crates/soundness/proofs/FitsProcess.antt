@@ -1,19 +1,19 @@
 -- The words of a process fit exactly where they are those of a valid process, and what was met of it exactly where it stands in its place.
 use Prim.Native.Nat.{ℕ, zero, suc, _+_, _*_, _≤_, _<_}
-use mathlib.Core.Path.{_≡_, refl, sym, ap, _∙_, subst}
-use mathlib.Core.Bool.{Bool, true, false, _&&_}
-use mathlib.Core.List.{List, [], _∷_}
+use mathlib.Core.Path.{_≡_, refl, ap, _∙_, subst}
+use mathlib.Core.Bool.{Bool, _&&_}
+use mathlib.Core.List.{List}
 use mathlib.Core.Logic.{_↔_}
 use native.Mathlib.Omega.{arith}
 use native.Mathlib.Nat.{add-zero}
 use lib.Dec.{T, eqb, leb, leb→le, le→leb}
 use lib.ListN.{getD}
 use borrow.Author.Tests.{ne-eqb}
-use Rattle.rules.specs.Lists.{if_then_else_, within, tabulate, bit}
-use Rattle.rules.specs.State.{Place, running, queued, asleep, ended, Progress, Wiring, wiring}
+use Rattle.rules.specs.Lists.{within, tabulate}
+use Rattle.rules.specs.State.{Place, running, queued, asleep, ended, wiring}
 use Rattle.rules.specs.Packing.{place-number, progress-words, K-of, N-of, M-of, process-at, process-word, place-from, view-process, view}
 use Rattle.rules.specs.Soundness.{valid-progress, fits, stands}
-use Rattle.packing.proofs.Reflect.{both, three, together, within-means}
+use Rattle.packing.proofs.Reflect.{both, together, within-means}
 use Rattle.packing.proofs.Reading.{state-words}
 use Rattle.soundness.proofs.Tests.{bit-means, bit-holds, zeros-mean, zeros-hold, six, all-six}
 use Rattle.soundness.proofs.FitsProgress.{progress-exact, places-are}
@@ -40,12 +40,15 @@ pub record FlatProcess (t : List ℕ) (p : ℕ) : Type 0 where
   pub words : progress-words (view-process t p .progress) ≡ tabulate (process-word t p) 6 14
 
 module _ (t met : List ℕ) (p : ℕ) where
+  -- the words of the process
   abbrev w : ℕ → ℕ
   w = process-word t p
 
+  -- the test of what was met
   abbrev meeting : Bool
   meeting = meeting-fits t (K-of t) p (w 0) (getD met p 0)
 
+  -- the test of the progress
   abbrev progress : Bool
   progress = progress-fits t (K-of t) (N-of t) (M-of t) p
 
@@ -59,14 +62,16 @@ module _ (t met : List ℕ) (p : ℕ) where
           let u = both (leb (w 2) 1 && leb (w 3) 1 && leb (w 4) 1 && leb (w 5) 9 && place-fits (w 0) (w 6) && meeting) progress h in
           let v = six (leb (w 2) 1) (leb (w 3) 1) (leb (w 4) 1) (leb (w 5) 9) (place-fits (w 0) (w 6)) meeting (u .0) in
           let x = progress-exact t p .0 (u .1) in
-          let place : place-number (place-from (w 0)) ≡ w 0 = place-known (w 0) (w 6) (v .4) in
-          (record {
-            count = leb→le (w 5) 9 (v .3);
-            progress = x .0;
-            places = rw (places-are t p (u .1), place) (v .4);
-            state = cc (place, bit-means (w 2) (v .0), bit-means (w 3) (v .1), bit-means (w 4) (v .2));
-            words = x .1;
-          }, v .5)
+          let place : place-number (place-from (w 0)) ≡ w 0 = place-known (w 0) (w 6) (v .4) in (
+            record {
+              count = leb→le (w 5) 9 (v .3);
+              progress = x .0;
+              places = rw (places-are t p (u .1), place) (v .4);
+              state = cc (place, bit-means (w 2) (v .0), bit-means (w 3) (v .1), bit-means (w 4) (v .2));
+              words = x .1;
+            },
+            v .5,
+          )
 
       back : FlatProcess t p × T meeting → T (process-fits t (K-of t) (N-of t) (M-of t) met p)
       back h =
@@ -76,7 +81,8 @@ module _ (t met : List ℕ) (p : ℕ) where
           let good : T (place-fits (w 0) (w 6)) = rw (places-are t p x, place) at (h .0 .places) in
           together (leb (w 2) 1 && leb (w 3) 1 && leb (w 4) 1 && leb (w 5) 9 && place-fits (w 0) (w 6) && meeting) progress
           (all-six (leb (w 2) 1) (leb (w 3) 1) (leb (w 4) 1) (leb (w 5) 9) (place-fits (w 0) (w 6)) meeting
-          (bit-holds (eqb (w 2) 1) (w 2) (cc)) (bit-holds (eqb (w 3) 1) (w 3) (cc)) (bit-holds (eqb (w 4) 1) (w 4) (cc)) (le→leb (w 5) 9 (h .0 .count)) good (h .1)) x
+          (bit-holds (eqb (w 2) 1) (w 2) (cc)) (bit-holds (eqb (w 3) 1) (w 3) (cc)) (bit-holds (eqb (w 4) 1) (w 4) (cc))
+          (le→leb (w 5) 9 (h .0 .count)) good (h .1)) x
 
 -- Meeting
 
@@ -86,11 +92,12 @@ pub record NoLinks (t : List ℕ) (K p queues heads : ℕ) : Type 0 where
   pub batch : heads ≡ 0 → (f : ℕ) → f < 3 → word t (process-at K p 21 + f) ≡ 0
 
 -- where a process stands, as a test of its place's number: nowhere, on a core, in a queue
-pub record PlaceTests (y : Place) : Type 0 where
-  pub nowhere : stands 0 0 y ≡ leb 3 (place-number y)
-  pub on-core : stands 1 0 y ≡ eqb (place-number y) 1
-  pub in-queue : stands 0 1 y ≡ eqb (place-number y) 2
+record PlaceTests (y : Place) : Type 0 where
+  nowhere : stands 0 0 y ≡ leb 3 (place-number y)
+  on-core : stands 1 0 y ≡ eqb (place-number y) 1
+  in-queue : stands 0 1 y ≡ eqb (place-number y) 2
 
+-- the place of each number
 place-tests : (y : Place) → PlaceTests y
 place-tests running = record { nowhere = refl; on-core = refl; in-queue = refl }
 place-tests queued = record { nowhere = refl; on-core = refl; in-queue = refl }
@@ -100,10 +107,11 @@ place-tests ended = record { nowhere = refl; on-core = refl; in-queue = refl }
 module _ (t : List ℕ) (K p : ℕ) where
   -- who has no links at all
   no-links : T (zeros t (process-at K p 20) 4) ↔ NoLinks t K p 0 0
-  no-links =
-      (λ h. let z = zeros-mean t (process-at K p 20) 4 h in
+  no-links = (
+    λ h. let z = zeros-mean t (process-at K p 20) 4 h in
         record { next = λ e. rw add-zero at (z 0 (omega arith)); batch = λ e f b. ap (word t) (omega arith) ∙ z (suc f) (omega arith) },
-        λ h. zeros-hold t (process-at K p 20) 4 (cases h))
+    λ h. zeros-hold t (process-at K p 20) 4 (cases h),
+  )
     where
       cases : NoLinks t K p 0 0 → (i : ℕ) → i < 4 → word t (process-at K p 20 + i) ≡ 0
       cases h zero b = rw add-zero (h .next refl)
@@ -111,9 +119,10 @@ module _ (t : List ℕ) (K p : ℕ) where
 
   -- who is in a queue and heads no batch
   no-batch-links : T (zeros t (process-at K p 21) 3) ↔ NoLinks t K p 1 0
-  no-batch-links =
-      (λ h. record { next = λ e. absurd (omega arith); batch = λ e. zeros-mean t (process-at K p 21) 3 h },
-        λ h. zeros-hold t (process-at K p 21) 3 (h .batch refl))
+  no-batch-links = (
+    λ h. record { next = λ e. absurd (omega arith); batch = λ e. zeros-mean t (process-at K p 21) 3 h },
+    λ h. zeros-hold t (process-at K p 21) 3 (h .batch refl),
+  )
 
   -- a test and another that says the same as a fact
   both-exact : (a a′ b : Bool) (C : Type 0) → a′ ≡ a → T b ↔ C → T (a && b) ↔ (T a′ × C)
@@ -127,7 +136,8 @@ module _ (t : List ℕ) (K p : ℕ) where
   meeting-exact (suc zero) zero zero y b c = both-exact (eqb (place-number y) 1) (stands 1 0 y) _ _ (place-tests y .on-core) no-links
   meeting-exact zero (suc zero) zero y b c = both-exact (eqb (place-number y) 2) (stands 0 1 y) _ _ (place-tests y .in-queue) no-batch-links
   meeting-exact zero (suc zero) (suc zero) y b c =
-      (λ h. (rw (place-tests y .in-queue) h, record { next = λ e. absurd (omega arith); batch = λ e. absurd (omega arith) }), λ h. rw (place-tests y .in-queue) at (h .0))
+      let e = place-tests y .in-queue in
+      (λ h. (rw e h, record { next = λ e. absurd (omega arith); batch = λ e. absurd (omega arith) }), λ h. rw e at (h .0))
   meeting-exact zero zero (suc heads) y b c = absurd (omega arith)
   meeting-exact zero (suc zero) (suc (suc heads)) y b c = absurd (omega arith)
   meeting-exact zero (suc (suc queues)) heads y b c = absurd (omega arith)

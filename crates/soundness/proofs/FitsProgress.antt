@@ -1,17 +1,17 @@
 -- The words of a process's progress fit exactly where they are those of a valid progress.
-use Prim.Native.Nat.{ℕ, zero, suc, _+_, _-_, _≤_, _<_}
+use Prim.Native.Nat.{ℕ, zero, suc, _+_, _-_, _≤_}
 use mathlib.Core.Path.{_≡_, refl, sym, ap, _∙_, subst}
 use mathlib.Core.Bool.{Bool, true, false, _&&_, _||_}
 use mathlib.Core.List.{List, [], _∷_}
 use mathlib.Core.Logic.{_↔_}
-use mathlib.Core.Option.{Option, none, some}
+use mathlib.Core.Option.{none}
 use native.Mathlib.Omega.{arith}
 use native.Mathlib.Nat.{add-zero, sub-zero, suc-sub-suc}
 use lib.Dec.{T, eqb, leb, eqb→eq, leb→le, le→leb, eqb·suc-zero, leb·zero}
-use lib.ListN.{length, getD, take}
+use lib.ListN.{length, take}
 use borrow.Author.Tests.{leb-true, leb-false, le-leb}
 use Rattle.rules.specs.Lists.{if_then_else_, within, all, tabulate, member, distinct}
-use Rattle.rules.specs.State.{Place, sending, receiving, Progress, nothing, Wiring, wiring}
+use Rattle.rules.specs.State.{Place, sending, receiving, Progress, Wiring, wiring}
 use Rattle.rules.specs.Packing.{
   place-number,
   ready-number,
@@ -31,8 +31,8 @@ use Rattle.rules.specs.Soundness.{is-process, own-end, own-guards, in-list, rea
 use Rattle.packing.proofs.Tabulate.{length-tabulate}
 use Rattle.packing.proofs.Reflect.{both, three, five, together, within-means}
 use Rattle.soundness.proofs.Tests.{equal-holds, all-three, all-five, six, all-six}
-use Rattle.soundness.proofs.Views.{take-tabulate, tabulate-as, processes-of-view, end-place, own-end-is}
-use Rattle.soundness.proofs.Shapes.{Shape, shape-words, shape-valid, shape-beyond, shape-of}
+use Rattle.soundness.proofs.Views.{take-tabulate, tabulate-as, processes-of-view, own-end-is}
+use Rattle.soundness.proofs.Shapes.{Shape, shape-words, shape-valid, shape-of}
 use Rattle.soundness.specs.Twin.{
   word,
   zeros,
@@ -42,7 +42,6 @@ use Rattle.soundness.specs.Twin.{
   has-guards,
   has-index,
   has-ready,
-  end-fits,
   stands-among,
   guards-fit,
   channel-part,
@@ -85,11 +84,12 @@ stands-among-is t x a (suc n) = ap (λ (b : Bool). eqb (word t a) x || b) (stand
 -- words that are 0
 zeros-exact : (t : List ℕ) (a n : ℕ) → T (zeros t a n) ↔ (padded n [] ≡ tabulate (word t) a n)
 zeros-exact t a zero = (λ h. refl, λ e. tt)
-zeros-exact t a (suc n) =
-    (λ h. let r = both (eqb (word t a) 0) (zeros t (suc a) n) h in
+zeros-exact t a (suc n) = (
+  λ h. let r = both (eqb (word t a) 0) (zeros t (suc a) n) h in
       let here : word t a ≡ 0 = eqb→eq (word t a) 0 (r .0) in
       let behind : padded n [] ≡ tabulate (word t) (suc a) n = zeros-exact t (suc a) n .0 (r .1) in cc,
-      λ e. together (eqb (word t a) 0) (zeros t (suc a) n) (equal-holds (word t a) 0 (cc)) (zeros-exact t (suc a) n .1 (cc)))
+  λ e. together (eqb (word t a) 0) (zeros t (suc a) n) (equal-holds (word t a) 0 (cc)) (zeros-exact t (suc a) n .1 (cc)),
+)
 
 -- the words of a list, then zeros
 padded-exact : (t : List ℕ) (a n g : ℕ) → g ≤ n → T (zeros t (a + g) (n - g)) ↔ (padded n (tabulate (word t) a g) ≡ tabulate (word t) a n)
@@ -102,108 +102,110 @@ padded-exact t a (suc n) (suc g) b =
 
 -- two tests and two facts, taken in another order
 regroup : (a b c x y : Bool) → T c ↔ (T x × T y) → T (a && b && c) ↔ (T (a && x) × T (b && y))
-regroup a b c x y r =
-    (λ h. let u = three a b c h in let v = r .0 (u .2) in (together a x (u .0) (v .0), together b y (u .1) (v .1)),
-      λ h. let u = both a x (h .0) in let v = both b y (h .1) in all-three a b c (u .0) (v .0) (r .1 (u .1, v .1)))
+regroup a b c x y r = (
+  λ h. let u = three a b c h in let v = r .0 (u .2) in (together a x (u .0) (v .0), together b y (u .1) (v .1)),
+  λ h. let u = both a x (h .0) in let v = both b y (h .1) in all-three a b c (u .0) (v .0) (r .1 (u .1, v .1)),
+)
 
 module _ (t : List ℕ) (p : ℕ) where
+  -- the wiring of the state that is read out
+  abbrev w : Wiring
+  w = wiring (view t)
+
   -- guards fit where each is one's own and none stands twice
   guards-fit-exact : (a n : ℕ) → T (guards-fit t (K-of t) (N-of t) (M-of t) p a n)
-      ↔ (T (all (own-end (wiring (view t)) receiving p) (tabulate (word t) a n)) × T (distinct (tabulate (word t) a n)))
+      ↔ (T (all (own-end w receiving p) (tabulate (word t) a n)) × T (distinct (tabulate (word t) a n)))
   guards-fit-exact a zero = (λ h. (tt, tt), λ h. tt)
-  guards-fit-exact a (suc n) = rw (stands-among-is, ← own-end-is t receiving p (word t a)) 
-      (regroup (own-end w receiving p (word t a)) (if member (word t a) behind then false else true) (guards-fit t (K-of t) (N-of t) (M-of t) p (suc a) n)
-      (all (own-end w receiving p) behind) (distinct behind) (guards-fit-exact (suc a) n))
+  guards-fit-exact a (suc n) =
+      rw (stands-among-is, ← own-end-is t receiving p (word t a))
+      (regroup (own-end w receiving p (word t a)) (if member (word t a) behind then false else true)
+      (guards-fit t (K-of t) (N-of t) (M-of t) p (suc a) n) (all (own-end w receiving p) behind) (distinct behind) (guards-fit-exact (suc a) n))
     where
-      w : Wiring
-      w = wiring (view t)
-
       behind : List ℕ
       behind = tabulate (word t) (suc a) n
 
-  -- the words from the guards on, by their addresses
-  guard-words : tabulate (process-word t p) 12 8 ≡ tabulate (word t) (process-at (K-of t) p 12) 8
-  guard-words = tabulate-as (process-word t p) (word t) 12 (process-at (K-of t) p 12) 8 (λ i. ap (word t) (omega arith))
+  -- where the guards stand
+  abbrev guards-at : ℕ
+  guards-at = process-at (K-of t) p 12
+
+  -- the eight words of the guards, by their addresses
+  guard-words : tabulate (process-word t p) 12 8 ≡ tabulate (word t) guards-at 8
+  guard-words = tabulate-as (process-word t p) (word t) 12 guards-at 8 (λ i. ap (word t) (omega arith))
 
   -- the guards that are read out: as many as the word g says
   abbrev guards-read : ℕ → List ℕ
   guards-read g = take g (tabulate (process-word t p) 12 8)
 
-  -- where they stand
-  abbrev a : ℕ
-  a = process-at (K-of t) p 12
-
-  abbrev w : Wiring
-  w = wiring (view t)
-
   module _ (g : ℕ) where
     -- the guards that are read out, by their addresses
-    guards-are : g ≤ 8 → guards-read g ≡ tabulate (word t) a g
-    guards-are b = ap (take g) guard-words ∙ take-tabulate (word t) a 8 g b
+    guards-are : g ≤ 8 → guards-read g ≡ tabulate (word t) guards-at g
+    guards-are b = ap (take g) guard-words ∙ take-tabulate (word t) guards-at 8 g b
 
-    abbrev choice-fits : Bool
-    choice-fits = within 1 8 g && guards-fit t (K-of t) (N-of t) (M-of t) p a g && zeros t (a + g) (8 - g)
+    -- the test of a choice's guards, and of a progress without guards
+    abbrev guards-tests : Bool → Bool
+    guards-tests has =
+        if has then (within 1 8 g && guards-fit t (K-of t) (N-of t) (M-of t) p guards-at g && zeros t (guards-at + g) (8 - g))
+        else (eqb g 0 && zeros t guards-at 8)
 
-    -- Guards fit exactly where they are those of a valid choice.
-    choice-exact : T choice-fits
-        ↔ (T (own-guards w p (guards-read g)) × (length (guards-read g) ≡ g) × (padded 8 (guards-read g) ≡ tabulate (process-word t p) 12 8))
-    choice-exact = (to, back)
-      where
-        to : T choice-fits
-            → T (own-guards w p (guards-read g)) × (length (guards-read g) ≡ g) × (padded 8 (guards-read g) ≡ tabulate (process-word t p) 12 8)
-        to h =
-            let r = three (within 1 8 g) (guards-fit t (K-of t) (N-of t) (M-of t) p a g) (zeros t (a + g) (8 - g)) h in
-            let b = within-means 1 8 g (r .0) in
-            let e : guards-read g ≡ tabulate (word t) a g = guards-are (b .1) in
-            let size : length (guards-read g) ≡ g = ap length e ∙ length-tabulate (word t) a g in
-            let f = guards-fit-exact a g .0 (r .1) in
-            (all-three (within 1 8 (length (guards-read g))) (all (own-end w receiving p) (guards-read g)) (distinct (guards-read g))
-              (rw size (r .0)) (rw e (f .0)) (rw e (f .1)),
-              size, ap (padded 8) e ∙ padded-exact t a 8 g (b .1) .0 (r .2) ∙ sym guard-words)
-
-        back : T (own-guards w p (guards-read g)) × (length (guards-read g) ≡ g) × (padded 8 (guards-read g) ≡ tabulate (process-word t p) 12 8)
-            → T choice-fits
-        back h =
-            let r = three (within 1 8 (length (guards-read g))) (all (own-end w receiving p) (guards-read g)) (distinct (guards-read g)) (h .0) in
-            let inside : T (within 1 8 g) = subst (λ (n : ℕ). T (within 1 8 n)) (h .1) (r .0) in
-            let b = within-means 1 8 g inside in
-            let e : guards-read g ≡ tabulate (word t) a g = guards-are (b .1) in
-            all-three (within 1 8 g) (guards-fit t (K-of t) (N-of t) (M-of t) p a g) (zeros t (a + g) (8 - g)) inside
-            (guards-fit-exact a g .1 (subst (λ (l : List ℕ). T (all (own-end w receiving p) l)) e (r .1), subst (λ (l : List ℕ). T (distinct l)) e (r .2)))
-            (padded-exact t a 8 g (b .1) .1 (ap (padded 8) (sym e) ∙ h .2 ∙ guard-words))
-
-    -- no guards at all
-    no-guards-exact : T (eqb g 0 && zeros t a 8) ↔ ((0 ≡ g) × (padded 8 [] ≡ tabulate (process-word t p) 12 8))
-    no-guards-exact =
-        (λ h. let r = both (eqb g 0) (zeros t a 8) h in (sym (eqb→eq g 0 (r .0)), zeros-exact t a 8 .0 (r .1) ∙ sym guard-words),
-          λ h. together (eqb g 0) (zeros t a 8) (equal-holds g 0 (sym (h .0))) (zeros-exact t a 8 .1 (h .1 ∙ guard-words)))
-
-    -- the guards, where the progress has some or none
-    GuardsRead : Bool → Type 0
+    -- the guards are valid, if there are any, and their number and their words are those that are packed
+    abbrev GuardsRead : Bool → Type 0
     GuardsRead has =
         T (if has then own-guards w p (guards-read g) else true) × (length (if has then guards-read g else []) ≡ g)
         × (padded 8 (if has then guards-read g else []) ≡ tabulate (process-word t p) 12 8)
 
-    guards-exact : (has : Bool) → T (if has then choice-fits else (eqb g 0 && zeros t a 8)) ↔ GuardsRead has
-    unfolding GuardsRead
-    guards-exact true = choice-exact
-    guards-exact false = (λ h. let r = no-guards-exact .0 h in (tt, r .0, r .1), λ h. no-guards-exact .1 (h .1, h .2))
+    -- what the test of a choice's guards says
+    choice-means : T (guards-tests true) → GuardsRead true
+    choice-means h =
+        let r = three (within 1 8 g) (guards-fit t (K-of t) (N-of t) (M-of t) p guards-at g) (zeros t (guards-at + g) (8 - g)) h in
+        let b = within-means 1 8 g (r .0) in
+        let e : guards-read g ≡ tabulate (word t) guards-at g = guards-are (b .1) in
+        let size : length (guards-read g) ≡ g = ap length e ∙ length-tabulate (word t) guards-at g in
+        let f = guards-fit-exact guards-at g .0 (r .1) in (
+          all-three (within 1 8 (length (guards-read g))) (all (own-end w receiving p) (guards-read g)) (distinct (guards-read g))
+              (rw size (r .0)) (rw e (f .0)) (rw e (f .1)),
+          size,
+          ap (padded 8) e ∙ padded-exact t guards-at 8 g (b .1) .0 (r .2) ∙ sym guard-words,
+        )
+
+    -- and what says as much
+    means-choice : GuardsRead true → T (guards-tests true)
+    means-choice h =
+        let gs = guards-read g in
+        let r = three (within 1 8 (length gs)) (all (own-end w receiving p) gs) (distinct gs) (h .0) in
+        let inside : T (within 1 8 g) = subst (λ (n : ℕ). T (within 1 8 n)) (h .1) (r .0) in
+        let b = within-means 1 8 g inside in
+        let e : gs ≡ tabulate (word t) guards-at g = guards-are (b .1) in
+        let own = subst (λ (l : List ℕ). T (all (own-end w receiving p) l)) e (r .1) in
+        let apart = subst (λ (l : List ℕ). T (distinct l)) e (r .2) in
+        all-three (within 1 8 g) (guards-fit t (K-of t) (N-of t) (M-of t) p guards-at g) (zeros t (guards-at + g) (8 - g)) inside
+        (guards-fit-exact guards-at g .1 (own, apart))
+        (padded-exact t guards-at 8 g (b .1) .1 (ap (padded 8) (sym e) ∙ h .2 ∙ guard-words))
+
+    -- Guards fit exactly where they are those that are packed.
+    guards-exact : (has : Bool) → T (guards-tests has) ↔ GuardsRead has
+    guards-exact true = (choice-means, means-choice)
+    guards-exact false = (
+      λ h. let r = both (eqb g 0) (zeros t guards-at 8) h in
+          (tt, sym (eqb→eq g 0 (r .0)), zeros-exact t guards-at 8 .0 (r .1) ∙ sym guard-words),
+      λ h. together (eqb g 0) (zeros t guards-at 8) (equal-holds g 0 (sym (h .1))) (zeros-exact t guards-at 8 .1 (h .2 ∙ guard-words)),
+    )
 
     -- there are as many guards as the word says
     guards-length : (has : Bool) → GuardsRead has → length (guards-read g) ≡ g
-    unfolding GuardsRead
     guards-length true h = h .1
     guards-length false h = let none : 0 ≡ g = h .1 in subst (λ (m : ℕ). length (guards-read m) ≡ m) none refl
 
-  -- A progress of the number n, with these words
+  -- A progress of the number n, with these words: channel, partner, number of guards, index, first ready guard
   module _ (n c q g i r : ℕ) where
+    -- its guards
     abbrev gs : List ℕ
     gs = guards-read g
 
+    -- the progress that is read out of these words
     abbrev read : Progress
     read = progress-from n c q gs i (ready-from r)
 
-    -- the tests of channel, partner, index and first ready guard
+    -- the tests of channel, partner, index, first ready guard and guards, and all of them
     abbrev channel-test : Bool
     channel-test = channel-part t (K-of t) (N-of t) (M-of t) p n c
 
@@ -217,12 +219,12 @@ module _ (t : List ℕ) (p : ℕ) where
     ready-test = if has-ready n then leb r g else eqb r 0
 
     abbrev guards-test : Bool
-    guards-test = guards-part t (K-of t) (N-of t) (M-of t) p n g a
+    guards-test = guards-part t (K-of t) (N-of t) (M-of t) p n g guards-at
 
     abbrev tests : Bool
     tests = leb n 23 && channel-test && partner-test && guards-test && index-test && ready-test
 
-    -- what has to be valid there
+    -- what has to be valid of each
     abbrev channel-valid : Bool
     channel-valid = if is-sender n then own-end w sending p c else if is-receiver n then own-end w receiving p c else true
 
@@ -238,18 +240,21 @@ module _ (t : List ℕ) (p : ℕ) where
     abbrev guards-valid : Bool
     guards-valid = if has-guards n then own-guards w p gs else true
 
-    -- each test says that this is valid, and that the word is the one that is packed
+    -- The tests say that this is valid, and that the word is the one that is packed: of the channel,
     channel-exact : T channel-test ↔ (T channel-valid × ((if is-sender n || is-receiver n then c else 0) ≡ c))
     channel-exact =
         rw (← own-end-is t sending p c, ← own-end-is t receiving p c)
         (optional-either (is-sender n) (is-receiver n) (own-end w sending p c) (own-end w receiving p c) c)
 
+    -- of the partner,
     partner-exact : T partner-test ↔ (T partner-valid × ((if has-partner n then q else 0) ≡ q))
     partner-exact = rw (← processes-of-view t) (optional (has-partner n) (is-process w q) q)
 
+    -- of the index,
     index-exact : length gs ≡ g → T index-test ↔ (T index-valid × ((if has-index n then i else 0) ≡ i))
     index-exact e = rw e (optional (has-index n) (within 1 g i) i)
 
+    -- and of the first ready guard.
     ready-exact : length gs ≡ g → T ready-test ↔ (T ready-valid × (ready-number (if has-ready n then ready-from r else none) ≡ r))
     ready-exact e = rw (ready-in-list-is, ready-number-is, e) (optional (has-ready n) (leb r g) r)
 
@@ -257,12 +262,13 @@ module _ (t : List ℕ) (p : ℕ) where
     abbrev Good : Type 0
     Good = T (valid-progress w p read) × (progress-words read ≡ n ∷ c ∷ q ∷ g ∷ i ∷ r ∷ tabulate (process-word t p) 12 8)
 
+    -- a progress that is read out has the shape of its number
     shape : n ≤ 23 → Shape w p c q gs i (ready-from r) n read
-    shape = shape-of w p c q gs i (ready-from r) n
+    shape = shape-of w p c q gs i (ready-from r) n .0
 
-    to : T tests → Good
-    unfolding GuardsRead
-    to h =
+    -- what the tests say
+    tests-mean : T tests → Good
+    tests-mean h =
         let u = six (leb n 23) channel-test partner-test guards-test index-test ready-test h in
         let s = shape (leb→le n 23 (u .0)) in
         let guards = guards-exact g (has-guards n) .0 (u .3) in
@@ -272,9 +278,9 @@ module _ (t : List ℕ) (p : ℕ) where
         let index = index-exact size .0 (u .4) in
         let ready = ready-exact size .0 (u .5) in
         let valid : T (shape-valid w p c q gs i (ready-from r) n) =
-          all-five channel-valid partner-valid guards-valid index-valid ready-valid (channel .0) (partner .0) (guards .0) (index .0) (ready .0) in
+        all-five channel-valid partner-valid guards-valid index-valid ready-valid (channel .0) (partner .0) (guards .0) (index .0) (ready .0) in
         let words : shape-words w p c q gs i (ready-from r) n ≡ n ∷ c ∷ q ∷ g ∷ i ∷ r ∷ tabulate (process-word t p) 12 8 =
-          cc (channel .1, partner .1, guards .1, guards .2, index .1, ready .1) in
+        cc (channel .1, partner .1, guards .1, guards .2, index .1, ready .1) in
         (rw (s .valid) valid, s .words ∙ words)
 
     -- a number of a progress that has these words is one of 0 to 23
@@ -286,12 +292,12 @@ module _ (t : List ℕ) (p : ℕ) where
         cases true e = leb-true n 23 e
         cases false e =
             let beyond : 24 ≤ n = leb-false n 23 e in
-            let words = sym (h .1) ∙ ap progress-words (shape-beyond w p c q gs i (ready-from r) n beyond) in
+            let words = sym (h .1) ∙ ap progress-words (shape-of w p c q gs i (ready-from r) n .1 beyond) in
             let none : n ≡ 0 = cc in absurd (omega arith)
 
-    back : Good → T tests
-    unfolding GuardsRead
-    back h =
+    -- and what says as much
+    means-tests : Good → T tests
+    means-tests h =
         let b = bound h in
         let s = shape b in
         let u = five channel-valid partner-valid guards-valid index-valid ready-valid (rw (s .valid) at (h .0)) in
@@ -303,25 +309,22 @@ module _ (t : List ℕ) (p : ℕ) where
         (index-exact size .1 (u .3, (cc))) (ready-exact size .1 (u .4, (cc)))
 
   -- the progress that is read out
-  abbrev x : Progress
-  x = view-process t p .progress
+  abbrev progress-read : Progress
+  progress-read = view-process t p .progress
 
   -- The words of a progress fit exactly where they are those of a valid progress.
-  pub progress-exact : T (progress-fits t (K-of t) (N-of t) (M-of t) p) ↔ (T (valid-progress w p x) × (progress-words x ≡ tabulate (process-word t p) 6 14))
+  pub progress-exact : T (progress-fits t (K-of t) (N-of t) (M-of t) p)
+      ↔ (T (valid-progress w p progress-read) × (progress-words progress-read ≡ tabulate (process-word t p) 6 14))
   unfolding view-process
   progress-exact =
-      (to (process-word t p 6) (process-word t p 7) (process-word t p 8) (process-word t p 9) (process-word t p 10) (process-word t p 11),
-        back (process-word t p 6) (process-word t p 7) (process-word t p 8) (process-word t p 9) (process-word t p 10) (process-word t p 11))
+      let f = process-word t p in
+      (tests-mean (f 6) (f 7) (f 8) (f 9) (f 10) (f 11), means-tests (f 6) (f 7) (f 8) (f 9) (f 10) (f 11))
 
   -- A progress whose words fit goes with the places that its number goes with.
-  pub places-are : T (progress-fits t (K-of t) (N-of t) (M-of t) p) → (y : Place) → fits y x ≡ place-fits (place-number y) (process-word t p 6)
+  pub places-are : T (progress-fits t (K-of t) (N-of t) (M-of t) p) → (y : Place)
+      → fits y progress-read ≡ place-fits (place-number y) (process-word t p 6)
   unfolding view-process
   places-are h y =
-      let n = process-word t p 6 in
-      let c = process-word t p 7 in
-      let q = process-word t p 8 in
-      let g = process-word t p 9 in
-      let i = process-word t p 10 in
-      let r = process-word t p 11 in
-      let u = six (leb n 23) (channel-test n c q g i r) (partner-test n c q g i r) (guards-test n c q g i r) (index-test n c q g i r) (ready-test n c q g i r) h in
-      shape n c q g i r (leb→le n 23 (u .0)) .places y
+      let f = process-word t p in
+      let good = tests-mean (f 6) (f 7) (f 8) (f 9) (f 10) (f 11) h in
+      shape (f 6) (f 7) (f 8) (f 9) (f 10) (f 11) (bound (f 6) (f 7) (f 8) (f 9) (f 10) (f 11) good) .places y

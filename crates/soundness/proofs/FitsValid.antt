@@ -1,18 +1,17 @@
 -- The state that is read out of a table that fits is valid.
-use Prim.Native.Nat.{ℕ, zero, suc, _+_, _*_, _≤_, _<_}
+use Prim.Native.Nat.{ℕ, zero, suc, _+_, _≤_, _<_}
 use mathlib.Core.Path.{_≡_, refl, sym, ap, _∙_, subst}
-use mathlib.Core.Bool.{Bool, true, false, _&&_}
+use mathlib.Core.Bool.{Bool, true, false}
 use mathlib.Core.List.{List, [], _∷_, map}
 use native.Mathlib.Omega.{arith}
-use native.Mathlib.Nat.{zero-add}
-use lib.Dec.{T, leb, ltb, le→leb, lt→ltb, eqb}
+use lib.Dec.{T, leb, le→leb, lt→ltb, eqb}
 use lib.ListN.{length, getD}
 use borrow.Author.Tests.{leb-true, leb-false, eq-eqb}
-use Rattle.rules.specs.Lists.{within, all, total, from, times, first, bit}
-use Rattle.rules.specs.State.{Core, Process, Channel, queues-of, State, Wiring, wiring}
-use Rattle.rules.specs.Items.{core-of, process-of, channel-of, no-core, no-channel}
+use Rattle.rules.specs.Lists.{all, total, from, times, first, bit}
+use Rattle.rules.specs.State.{Core, Channel, queues-of, Wiring, wiring}
+use Rattle.rules.specs.Items.{core-of, no-core, no-channel}
 use Rattle.rules.specs.SetUp.{sizes}
-use Rattle.rules.specs.Packing.{heads, place-number, K-of, N-of, M-of, process-word, view-core, view-process, view-channel, view}
+use Rattle.rules.specs.Packing.{heads, place-number, K-of, N-of, M-of, process-word, view-core, view-process, view}
 use Rattle.rules.specs.Soundness.{
   word32,
   is-process,
@@ -28,16 +27,15 @@ use Rattle.rules.specs.Soundness.{
   valid-channel,
   valid,
 }
-use Rattle.packing.proofs.Sums.{total-le, term-le-total, total-map}
+use Rattle.packing.proofs.Sums.{term-le-total, total-map}
 use Rattle.soundness.proofs.Tests.{within-holds, all-four, all-five, from-holds, all-holds, times-holds}
 use Rattle.soundness.proofs.Walks.{Linked, next-of, batch-of, Batch}
 use Rattle.soundness.proofs.CoreWalks.{CoreFits, chain-first, heads-of, heads-are, heads-stand}
 use Rattle.soundness.proofs.Views.{cores-of-view, processes-of-view, channels-of-view, core-of-view, process-of-view, channel-of-view}
 use Rattle.soundness.proofs.FitsCore.{FlatCore, core-fits-means}
-use Rattle.soundness.proofs.FitsProcess.{FlatProcess, NoLinks, meeting-exact}
-use Rattle.soundness.proofs.Fitting.{HeaderFits, header-processes, Fitting}
+use Rattle.soundness.proofs.FitsProcess.{NoLinks, meeting-exact}
+use Rattle.soundness.proofs.Fitting.{header-processes, Fitting}
 use Rattle.soundness.proofs.Links.{heads-in, heads-le, standing-is, load-is}
-use Rattle.soundness.specs.Twin.{meeting-fits}
 
 -- a linked list that begins with a process is not empty
 linked-some : (link : ℕ → ℕ) (p : ℕ) (l : List ℕ) → Linked link p l → 1 ≤ p → T (not-empty l)
@@ -83,12 +81,14 @@ module _ (t : List ℕ) (some : 1 ≤ N-of t) (cores : (k : ℕ) → k < K-of t 
   pub heads-below : (q : ℕ) → heads-in (view t) q ≤ in-queues (view t) q
   heads-below q =
       heads-le (view t) q (λ k b. let c : k < K-of t = subst (λ (n : ℕ). k < n) (cores-of-view t) b in
-        rw (core-of-view t k c) (omega (arith, heads-stand t some k (cores k c) q)))
+      rw (core-of-view t k c) (omega (arith, heads-stand t some k (cores k c) q)))
 
 module _ (t : List ℕ) (words : (i : ℕ) → getD t i 0 < 4294967296) (h : Fitting t) where
+  -- the state's wiring
   abbrev w : Wiring
   w = wiring (view t)
 
+  -- there is a process
   some : 1 ≤ N-of t
   some = header-processes t (h .header) .0
 
@@ -106,53 +106,63 @@ module _ (t : List ℕ) (words : (i : ℕ) → getD t i 0 < 4294967296) (h : Fit
           omega (arith, h .apart q (rw standing-is b), standing-is (view t) q)
       cases false e = omega (arith, leb-false 1 (on-cores (view t) q + in-queues (view t) q) e)
 
-  -- the test of a process
+  -- who stands in a queue is a process
   process-here : (q : ℕ) → 1 ≤ in-queues (view t) q → T (is-process w q)
   process-here q b = let r = standing-range q (omega arith) in rw processes-of-view (within-holds 1 (N-of t) q (r .0) (r .1))
 
-  -- who stands in a queue of a core
+  -- who stands in a queue of a core stands in a queue
   in-queue : (k : ℕ) → k < K-of t → (i : ℕ) → i < length (queues-of (view-core t k)) → (q : ℕ)
       → 1 ≤ times q (getD (queues-of (view-core t k)) i []) → 1 ≤ in-queues (view t) q
   unfolding in-queues
   in-queue k b i e q m =
       let c : k < length (view t .cores) = subst (λ (n : ℕ). k < n) (sym (cores-of-view t)) b in
       let core : core-of (view t) k ≡ view-core t k = core-of-view t k b in
-      omega (arith, term-le-total (times q) (queues-of (view-core t k)) [] i e,
-        term-le-total (λ (c : Core). total (times q) (queues-of c)) (view t .cores) no-core k c, ap (λ (c : Core). total (times q) (queues-of c)) core)
+      omega (
+        arith,
+        term-le-total (times q) (queues-of (view-core t k)) [] i e,
+        term-le-total (λ (c : Core). total (times q) (queues-of c)) (view t .cores) no-core k c,
+        ap (λ (c : Core). total (times q) (queues-of c)) core,
+      )
 
   -- the words of a core that belong to no queue
   pub flat-core : (k : ℕ) → k < K-of t → FlatCore w t k
   flat-core k b = core-fits-means w t k (rw processes-of-view (h .cores k b .flat))
 
+  -- a core is valid
   core-valid : (k : ℕ) → k < K-of t → T (valid-core w (view-core t k))
   unfolding valid-core view-core
   core-valid k b =
       let c = view-core t k in
       let f = flat-core k b in
       all-four (valid-work w (c .work)) (leb (c .dispatch) 32) (all not-empty (c .run-queue)) (all (all (is-process w)) (queues-of c))
-      (f .work .0) (le→leb (c .dispatch) 32 (f .dispatch))
-      (all-holds not-empty (c .run-queue) [] (λ i e. let x = batch-fits t some (h .cores) k i b e in
-        subst (λ (l : List ℕ). T (not-empty l)) (sym (batch-is t some k i e))
-        (linked-some (next-of t) _ (batch-of t _) (x .queue .linked) (x .low))))
-      (all-holds (all (is-process w)) (queues-of c) [] (λ i e. times-holds (is-process w) (getD (queues-of c) i []) (λ q m. process-here q (in-queue k b i e q m))))
+      (f .work .0) (le→leb (c .dispatch) 32 (f .dispatch)) (all-holds not-empty (c .run-queue) [] batch-some)
+      (all-holds (all (is-process w)) (queues-of c) []
+      (λ i e. times-holds (is-process w) (getD (queues-of c) i []) (λ q m. process-here q (in-queue k b i e q m))))
+    where
+      batch-some : (i : ℕ) → i < length (view-core t k .run-queue) → T (not-empty (getD (view-core t k .run-queue) i []))
+      batch-some i e =
+          let x = batch-fits t some (h .cores) k i b e in
+          subst (λ (l : List ℕ). T (not-empty l)) (sym (batch-is t some k i e))
+          (linked-some (next-of t) _ (batch-of t _) (x .queue .linked) (x .low))
 
   -- where a process stands, and that it has no links that it should not have
   pub stands-linked : (p : ℕ) → 1 ≤ p → p ≤ N-of t
-      → T (stands (on-cores (view t) p) (in-queues (view t) p) (view-process t p .place)) × NoLinks t (K-of t) p (in-queues (view t) p) (heads-in (view t) p)
+      → T (stands (on-cores (view t) p) (in-queues (view t) p) (view-process t p .place))
+      × NoLinks t (K-of t) p (in-queues (view t) p) (heads-in (view t) p)
   unfolding view-process
   stands-linked p l b =
       let y = view-process t p .place in
       let state = h .processes p l b .state in
       let place : process-word t p 0 ≡ place-number y = cc in
-      meeting-exact t (K-of t) p (on-cores (view t) p) (in-queues (view t) p) (heads-in (view t) p) y (standing-once p) (heads-below t some (h .cores) p) .0
-      (subst (λ (n : ℕ). T (meeting-fits t (K-of t) p n (on-cores (view t) p + 2 * in-queues (view t) p + heads-in (view t) p))) place
-      (subst (λ (n : ℕ). T (meeting-fits t (K-of t) p (process-word t p 0) n)) (load-is (view t) p) (h .meetings p l b)))
+      meeting-exact t (K-of t) p (on-cores (view t) p) (in-queues (view t) p) (heads-in (view t) p) y (standing-once p)
+      (heads-below t some (h .cores) p) .0 (rw (place, load-is) at (h .meetings p l b))
 
   -- a data word is a word of the table
   data-small : (p : ℕ) → view-process t p .data-word < 4294967296
   unfolding view-process
   data-small p = words _
 
+  -- a process is valid
   process-valid : (p : ℕ) → 1 ≤ p → p ≤ N-of t → T (valid-process (view t) p)
   unfolding valid-process
   process-valid p l b =
@@ -161,7 +171,8 @@ module _ (t : List ℕ) (words : (i : ℕ) → getD t i 0 < 4294967296) (h : Fit
       rw (process-of-view t p l b)
       (all-five (word32 (r .data-word)) (leb (r .alternation .count) 9) (valid-progress w p (r .progress)) (fits (r .place) (r .progress))
       (stands (on-cores (view t) p) (in-queues (view t) p) (r .place))
-      (lt→ltb (r .data-word) 4294967296 (data-small p)) (le→leb (r .alternation .count) 9 (f .count)) (f .progress) (f .places) (stands-linked p l b .0))
+      (lt→ltb (r .data-word) 4294967296 (data-small p)) (le→leb (r .alternation .count) 9 (f .count)) (f .progress) (f .places)
+      (stands-linked p l b .0))
 
   -- The state is valid.
   pub fits-valid : T (valid (view t))
@@ -171,8 +182,8 @@ module _ (t : List ℕ) (words : (i : ℕ) → getD t i 0 < 4294967296) (h : Fit
       (all (valid-process (view t)) (from 1 (length (view t .processes)))) (all (valid-channel w) (view t .channels))
       (rw (cores-of-view, processes-of-view, channels-of-view) (h .header .sizes))
       (all-holds (valid-core w) (view t .cores) no-core (λ k b.
-        let c : k < K-of t = subst (λ (n : ℕ). k < n) (cores-of-view t) b in rw (core-of-view t k c) (core-valid k c)))
+      let c : k < K-of t = subst (λ (n : ℕ). k < n) (cores-of-view t) b in rw (core-of-view t k c) (core-valid k c)))
       (from-holds (valid-process (view t)) 1 (length (view t .processes)) (λ p l b. process-valid p l (omega (arith, processes-of-view t))))
       (all-holds (valid-channel w) (view t .channels) no-channel (λ i b.
-        let c : suc i ≤ M-of t = subst (λ (n : ℕ). i < n) (channels-of-view t) b in
-        subst (λ (x : Channel). T (valid-channel w x)) (sym (channel-of-view t (suc i) (omega arith) c)) (h .channels (suc i) (omega arith) c)))
+      let c : suc i ≤ M-of t = subst (λ (n : ℕ). i < n) (channels-of-view t) b in
+      subst (λ (x : Channel). T (valid-channel w x)) (sym (channel-of-view t (suc i) (omega arith) c)) (h .channels (suc i) (omega arith) c)))

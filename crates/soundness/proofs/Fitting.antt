@@ -1,21 +1,21 @@
 -- What the check finds, put together: a table fits exactly where its header, cores, processes and channels do.
 use Prim.Native.Nat.{ℕ, zero, suc, _+_, _≤_, _<_}
-use mathlib.Core.Path.{_≡_, refl, sym, ap, _∙_, subst}
+use mathlib.Core.Path.{_≡_, refl, ap, _∙_}
 use mathlib.Core.Bool.{Bool, true, false, _&&_}
-use mathlib.Core.List.{List, [], _∷_}
+use mathlib.Core.List.{List}
 use mathlib.Core.Logic.{_↔_}
 use native.Mathlib.Omega.{arith}
 use native.Mathlib.Nat.{zero-add}
-use lib.Dec.{T, eqb, leb, eqb→eq, leb→le, le→leb}
+use lib.Dec.{T, eqb, leb, eqb→eq, le→leb}
 use lib.ListN.{length, getD, replicate, length-replicate, getD-replicate}
-use Rattle.rules.specs.Lists.{if_then_else_, within, all, total, tabulate, from}
+use Rattle.rules.specs.Lists.{if_then_else_, within, all, total, from}
 use Rattle.rules.specs.State.{wiring}
 use Rattle.rules.specs.SetUp.{room, sizes}
-use Rattle.rules.specs.Packing.{K-of, N-of, M-of, process-word, channel-word, view-core, view-channel, view}
+use Rattle.rules.specs.Packing.{K-of, N-of, M-of, process-word, view-channel, view}
 use Rattle.rules.specs.Soundness.{valid-channel}
 use Rattle.packing.proofs.Reflect.{both, four, three, together, within-means, all-from}
 use Rattle.soundness.proofs.Tests.{equal-holds, all-four, zeros-mean, zeros-hold, from-holds}
-use Rattle.soundness.proofs.Walks.{Exact, Met, Apart}
+use Rattle.soundness.proofs.Exact.{Exact, Met, Apart}
 use Rattle.soundness.proofs.CoreWalks.{standing, load, CoreFits, cores-exact}
 use Rattle.soundness.proofs.Views.{processes-of-view}
 use Rattle.soundness.proofs.FitsChannel.{channel-fits-is}
@@ -57,12 +57,14 @@ pub record HeaderFits (t : List ℕ) : Type 0 where
   pub length : length t ≡ room (K-of t) (N-of t) (M-of t)
   pub unused : (i : ℕ) → i < 5 → word t (3 + i) ≡ 0
 
-pub header-exact : (t : List ℕ) → T (header-fits t) ↔ HeaderFits t
-header-exact t =
-    (λ h. let u = four (leb 8 (length t)) (sizes (K-of t) (N-of t) (M-of t)) (eqb (length t) size) (zeros t 3 5) h in
+-- a header fits exactly where it says this
+header-exact : (t : List ℕ) → T (header-fits t) ↔ HeaderFits t
+header-exact t = (
+  λ h. let u = four (leb 8 (length t)) (sizes (K-of t) (N-of t) (M-of t)) (eqb (length t) size) (zeros t 3 5) h in
       record { sizes = u .1; length = eqb→eq (length t) size (u .2); unused = zeros-mean t 3 5 (u .3) },
-      λ h. all-four (leb 8 (length t)) (sizes (K-of t) (N-of t) (M-of t)) (eqb (length t) size) (zeros t 3 5)
-        (le→leb 8 (length t) (omega (arith, h .length))) (h .sizes) (equal-holds (length t) size (h .length)) (zeros-hold t 3 5 (h .unused)))
+  λ h. all-four (leb 8 (length t)) (sizes (K-of t) (N-of t) (M-of t)) (eqb (length t) size) (zeros t 3 5)
+      (le→leb 8 (length t) (omega (arith, h .length))) (h .sizes) (equal-holds (length t) size (h .length)) (zeros-hold t 3 5 (h .unused)),
+)
   where
     size : ℕ
     size = room (K-of t) (N-of t) (M-of t)
@@ -82,12 +84,14 @@ pub record Fitting (t : List ℕ) : Type 0 where
   pub channels : (c : ℕ) → 1 ≤ c → c ≤ M-of t → T (valid-channel (wiring (view t)) (view-channel t c))
 
 module _ (t : List ℕ) (words : (i : ℕ) → getD t i 0 < 4294967296) (header : HeaderFits t) where
+  -- what the walk over all cores finds, and what is met then
   abbrev CoresFit : Type 0
   CoresFit = ((k : ℕ) → 0 ≤ k → k < 0 + K-of t → CoreFits t k) × Apart (N-of t) (λ q. 0) (λ q. total (standing q) (view t .cores))
 
   abbrev CoresMet : List ℕ → Type 0
   CoresMet = Met (N-of t) (λ q. 0 + total (load q) (view t .cores))
 
+  -- there are 1 to 256 processes
   limits : (1 ≤ N-of t) × (N-of t ≤ 256)
   limits = header-processes t header
 
@@ -96,6 +100,7 @@ module _ (t : List ℕ) (words : (i : ℕ) → getD t i 0 < 4294967296) (header 
   nobody-met =
       record { room = omega (arith, limits, length-replicate {A = ℕ} 257 0); each = λ q l b. getD-replicate 257 q 0 0 (omega (arith, limits)) }
 
+  -- the walk over all cores is exact
   walk-exact : Exact CoresFit CoresMet (cores-walk t (K-of t) (N-of t) 0 (K-of t) (replicate 257 0))
   unfolding view
   walk-exact = cores-exact t (limits .0) (K-of t) 0 (λ q. 0) (replicate 257 0) nobody-met
@@ -108,35 +113,37 @@ module _ (t : List ℕ) (words : (i : ℕ) → getD t i 0 < 4294967296) (header 
   channel-is : (c : ℕ) → valid-channel (wiring (view t)) (view-channel t c) ≡ channel-fits t (K-of t) (N-of t) c
   channel-is c = channel-fits-is t (wiring (view t)) (processes-of-view t) c (words _)
 
-  -- the rest of the check, after a walk that is exact
+  -- what the rest of the check says, after a walk that is exact
   rest-means : (walk : Walk) → Exact CoresFit CoresMet walk → T (rest-fits t (K-of t) (N-of t) (M-of t) walk) → Fitting t
   rest-means flaw e h = absurd h
   rest-means (well met) e h =
       let u = both (processes-fit t (K-of t) (N-of t) (M-of t) met 1 (N-of t)) (channels-fit t (K-of t) (N-of t) 1 (M-of t)) h in
-      let each = all-from (process-fits t (K-of t) (N-of t) (M-of t) met) 1 (N-of t) (subst T (processes-fit-is t (K-of t) (N-of t) (M-of t) met 1 (N-of t)) (u .0)) in
+      let each = all-from (process-fits t (K-of t) (N-of t) (M-of t) met) 1 (N-of t) (rw processes-fit-is at (u .0)) in
       let part : (p : ℕ) (l : 1 ≤ p) (b : p ≤ N-of t) → FlatProcess t p × T (meeting-fits t (K-of t) p (process-word t p 0) (getD met p 0)) =
-        λ p l b. process-exact t met p .0 (each p l (omega arith)) in
-      let channel = all-from (channel-fits t (K-of t) (N-of t)) 1 (M-of t) (subst T (channels-fit-is t (K-of t) (N-of t) 1 (M-of t)) (u .1)) in
+      λ p l b. process-exact t met p .0 (each p l (omega arith)) in
+      let channel = all-from (channel-fits t (K-of t) (N-of t)) 1 (M-of t) (rw channels-fit-is at (u .1)) in
       record {
         header = header;
         cores = λ k b. e .0 .0 k (omega arith) (omega arith);
         apart = e .0 .1;
         processes = λ p l b. part p l b .0;
-        meetings = λ p l b. subst (λ (m : ℕ). T (meeting-fits t (K-of t) p (process-word t p 0) m)) (number met (e .1) p l b) (part p l b .1);
+        meetings = λ p l b. rw (number met (e .1) p l b) at (part p l b .1);
         channels = λ c l b. rw (channel-is c) (channel c l (omega arith));
       }
 
+  -- and that it finds no flaw in a table that fits
   means-rest : (walk : Walk) → Exact CoresFit CoresMet walk → Fitting t → T (rest-fits t (K-of t) (N-of t) (M-of t) walk)
   means-rest flaw e h = absurd (e (λ k l b. h .cores k (omega arith), h .apart))
   means-rest (well met) e h =
       together (processes-fit t (K-of t) (N-of t) (M-of t) met 1 (N-of t)) (channels-fit t (K-of t) (N-of t) 1 (M-of t))
       (rw processes-fit-is (from-holds (process-fits t (K-of t) (N-of t) (M-of t) met) 1 (N-of t) (λ p l b. process p l (omega arith))))
-      (rw channels-fit-is (from-holds (channel-fits t (K-of t) (N-of t)) 1 (M-of t) (λ c l b. subst T (channel-is c) (h .channels c l (omega arith)))))
+      (rw channels-fit-is (from-holds (channel-fits t (K-of t) (N-of t)) 1 (M-of t) channel))
     where
       process : (p : ℕ) → 1 ≤ p → p ≤ N-of t → T (process-fits t (K-of t) (N-of t) (M-of t) met p)
-      process p l b =
-          process-exact t met p .1
-          (h .processes p l b, subst (λ (m : ℕ). T (meeting-fits t (K-of t) p (process-word t p 0) m)) (sym (number met (e .1) p l b)) (h .meetings p l b))
+      process p l b = process-exact t met p .1 (h .processes p l b, rw (number met (e .1) p l b) (h .meetings p l b))
+
+      channel : (c : ℕ) → 1 ≤ c → c < 1 + M-of t → T (channel-fits t (K-of t) (N-of t) c)
+      channel c l b = rw (channel-is c) at (h .channels c l (omega arith))
 
 -- A table fits exactly where its parts do.
 pub table-exact : (t : List ℕ) → ((i : ℕ) → getD t i 0 < 4294967296) → T (table-fits t) ↔ Fitting t

@@ -1,4 +1,5 @@
 pub mod Tests
+pub mod Exact
 pub mod Walks
 pub mod CoreWalks
 pub mod Views

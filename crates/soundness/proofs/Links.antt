@@ -3,17 +3,17 @@
 use Prim.Native.Nat.{ℕ, zero, suc, _+_, _*_, _≤_, _<_}
 use mathlib.Core.Path.{_≡_, refl, sym, ap, _∙_, subst}
 use mathlib.Core.Bool.{Bool, true, false}
-use mathlib.Core.List.{List, [], _∷_, map}
+use mathlib.Core.List.{List, [], _∷_}
 use native.Mathlib.Omega.{arith}
 use lib.Dec.{eqb, eqb→eq}
 use lib.ListN.{length, getD}
-use borrow.Author.Tests.{eqb-true, eqb-false, eq-eqb, ne-eqb}
+use borrow.Author.Tests.{eqb-true, eq-eqb}
 use Rattle.rules.specs.Lists.{if_then_else_, total, bit, times, first, last, follows}
 use Rattle.rules.specs.State.{Core, queues-of, State}
 use Rattle.rules.specs.Items.{core-of, no-core}
 use Rattle.rules.specs.Packing.{heads, next-link, if-head, head-link, batch-link, chain}
 use Rattle.rules.specs.Soundness.{runs-it, on-cores, in-queues}
-use Rattle.packing.proofs.Sums.{total-le, term-le-total, positive-term, total-add, total-zero, total-only, total-map, Among, among-length, head-stands}
+use Rattle.packing.proofs.Sums.{total-le, term-le-total, positive-term, total-add, total-zero, total-only, total-map, Among, among-length}
 use Rattle.packing.proofs.Chains.{chain-back, follows-none}
 use Rattle.soundness.proofs.Tests.{bit-positive}
 use Rattle.soundness.proofs.Walks.{Linked, last-from}
@@ -110,13 +110,16 @@ module _ (s : State) (p : ℕ) where
       cases true q = absurd (omega (arith, ap bit q))
       cases false q = refl
 
+  -- nor of any batches
   no-head : (f : List ℕ → ℕ) (batches : List (List ℕ)) → times p (heads batches) ≡ 0 → total (if-head f p) batches ≡ 0
   no-head f batches e = total-zero headed (if-head f p) (not-head f) batches (omega (arith, total-map (λ x. bit (eqb x p)) first batches))
 
+  -- nor of those of a state
   pub no-head-link : (f : List ℕ → ℕ) → heads-in s p ≡ 0 → head-link f s p ≡ 0
   unfolding heads-in head-link
   no-head-link f = total-zero _ _ (λ (c : Core). no-head f (c .run-queue)) (s .cores)
 
+  -- and is linked to no other head
   pub no-batch-link : heads-in s p ≡ 0 → batch-link s p ≡ 0
   unfolding heads-in batch-link
   no-batch-link = total-zero _ _ (λ (c : Core). follows-none p (heads (c .run-queue))) (s .cores)
@@ -130,8 +133,9 @@ module _ (s : State) (p : ℕ) where
       let l = core-of s k .run-queue in
       let here : headed (getD l i []) ≡ 1 = ap bit (eq-eqb (first (getD l i [])) p e) in
       let all-heads : times p (heads l) ≡ total headed l = total-map (λ x. bit (eqb x p)) first l in
-      let below = term-le-total (λ (c : Core). times p (heads (c .run-queue))) (s .cores) no-core k b in
-      total-only (λ (c : Core). times p (heads (c .run-queue))) (λ (c : Core). total (if-head f p) (c .run-queue)) (λ (c : Core). no-head f (c .run-queue))
-      (s .cores) one no-core k b (omega (arith, term-le-total headed l [] i c))
+      let headed-on : Core → ℕ = λ c. times p (heads (c .run-queue)) in
+      let below = term-le-total headed-on (s .cores) no-core k b in
+      total-only headed-on (λ (c : Core). total (if-head f p) (c .run-queue)) (λ (c : Core). no-head f (c .run-queue)) (s .cores) one no-core k b
+      (omega (arith, term-le-total headed l [] i c))
       ∙ total-only headed (if-head f p) (not-head f) l (omega arith) [] i c (omega arith)
       ∙ ap (λ (t : Bool). if t then f (getD l i []) else 0) (eq-eqb (first (getD l i [])) p e)

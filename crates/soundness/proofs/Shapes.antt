@@ -1,15 +1,15 @@
 -- Which words of a progress mean something, by its number: for each of the 24 numbers, the words of the progress that is read out,
 -- when it is valid and which places it fits.
 use Prim.Native.Nat.{ℕ, zero, suc, _+_, _≤_, _<_}
-use mathlib.Core.Path.{_≡_, refl, sym, ap, _∙_, subst}
-use mathlib.Core.Bool.{Bool, true, false, _&&_, _||_}
+use mathlib.Core.Path.{_≡_, refl, sym, subst}
+use mathlib.Core.Bool.{Bool, true, _&&_, _||_}
 use mathlib.Core.List.{List, [], _∷_}
 use mathlib.Core.Option.{Option, none}
 use native.Mathlib.Omega.{arith}
 use native.Mathlib.Nat.{add-zero, zero-add}
-use lib.Dec.{T, eqb, leb, lit≤}
-use lib.ListN.{length, getD, List·getD-eq-default}
-use borrow.Author.Tests.{ne-eqb, eq-eqb, le-leb, lt-leb}
+use lib.Dec.{T, leb, leb→le}
+use lib.ListN.{length, getD}
+use borrow.Author.Tests.{ne-eqb, le-leb, lt-leb}
 use Rattle.rules.specs.Lists.{if_then_else_, within}
 use Rattle.rules.specs.State.{
   Place,
@@ -47,6 +47,7 @@ use Rattle.rules.specs.State.{
 }
 use Rattle.rules.specs.Packing.{place-number, request-words, progress-words, progress-from}
 use Rattle.rules.specs.Soundness.{is-process, own-end, own-guards, in-list, ready-in-list, valid-progress, fits}
+use Rattle.packing.proofs.Reflect.{within-means}
 use Rattle.soundness.proofs.Tests.{and-true}
 use Rattle.soundness.specs.Twin.{is-sender, is-receiver, has-partner, has-guards, has-index, has-ready, place-fits}
 
@@ -92,70 +93,57 @@ module _ (w : Wiring) (p c q : ℕ) (gs : List ℕ) (i : ℕ) (r : Option ℕ) w
     pub places : (y : Place) → fits y x ≡ place-fits (place-number y) n
 
   -- each of a list, numbered from a on, has the shape of its number
-  abbrev ShapesFrom : ℕ → List Progress → Type 0
-  ShapesFrom a [] = Unit {0}
-  ShapesFrom a (x ∷ xs) = Shape a x × ShapesFrom (suc a) xs
+  data ShapesFrom : ℕ → List Progress → Type 0 where
+    end : {a : ℕ} → ShapesFrom a []
+    row : {a : ℕ} {x : Progress} {xs : List Progress} → Shape a x → ShapesFrom (suc a) xs → ShapesFrom a (x ∷ xs)
 
-  shape-at : (l : List Progress) (a n : ℕ) → ShapesFrom a l → n < length l → Shape (a + n) (getD l n nothing)
-  shape-at [] a n h b = absurd (omega arith)
-  shape-at (x ∷ xs) a zero h b = rw add-zero (h .0)
-  shape-at (x ∷ xs) a (suc n) h b =
+  -- what is read at a number: one of the list, in its shape, or nothing
+  shape-at : {a : ℕ} {l : List Progress} → ShapesFrom a l → (n : ℕ)
+      → (n < length l → Shape (a + n) (getD l n nothing)) × (length l ≤ n → getD l n nothing ≡ nothing)
+  shape-at end n = (λ b. absurd (omega arith), λ b. refl)
+  shape-at (row h rest) zero = (λ b. rw add-zero h, λ b. absurd (omega arith))
+  shape-at {a} (row {xs = xs} h rest) (suc n) =
       let e : suc a + n ≡ a + suc n = omega arith in
-      subst (λ (m : ℕ). Shape m (getD xs n nothing)) e (shape-at xs (suc a) n (h .1) (omega arith))
+      let r = shape-at rest n in
+      (λ b. subst (λ (m : ℕ). Shape m (getD xs n nothing)) e (r .0 (omega arith)), λ b. r .1 (omega arith))
 
-  stage : (n : ℕ) → 1 ≤ n → n ≤ 19 → (x : Stage) → progress-words (doing x) ≡ shape-words n → valid-progress w p (doing x) ≡ shape-valid n → Shape n (doing x)
-  stage n l b x e v = record { words = e; valid = v; places = fits-doing n l b x }
+  -- a stage with its number
+  stage : (n : ℕ) → T (within 1 19 n) → (x : Stage) → progress-words (doing x) ≡ shape-words n → valid-progress w p (doing x) ≡ shape-valid n
+      → Shape n (doing x)
+  stage n b x e v = let r = within-means 1 19 n b in record { words = e; valid = v; places = fits-doing n (r .0) (r .1) x }
 
-  outcome : (n : ℕ) → 20 ≤ n → (x : Outcome) → progress-words (due x) ≡ shape-words n → valid-progress w p (due x) ≡ shape-valid n → Shape n (due x)
-  outcome n l x e v = record { words = e; valid = v; places = fits-due n l x }
+  -- an outcome with its number
+  outcome : (n : ℕ) → T (leb 20 n) → (x : Outcome) → progress-words (due x) ≡ shape-words n → valid-progress w p (due x) ≡ shape-valid n
+      → Shape n (due x)
+  outcome n b x e v = record { words = e; valid = v; places = fits-due n (leb→le 20 n b) x }
 
-  -- the progress of each number, from 0 on
-  abbrev progresses : List Progress
-  progresses =
-      nothing
-      ∷ doing (look sending c) ∷ doing (park sending c) ∷ doing (copy sending c q) ∷ doing (clear sending c q) ∷ doing (wake sending c q)
-      ∷ doing (look receiving c) ∷ doing (park receiving c) ∷ doing (copy receiving c q) ∷ doing (clear receiving c q) ∷ doing (wake receiving c q)
-      ∷ doing (enable-look gs i) ∷ doing (raise gs i) ∷ doing (place-name gs i) ∷ doing (ready-from-look gs i) ∷ doing (ready-from-place gs i)
-      ∷ doing (wait gs) ∷ doing (disable gs i r) ∷ doing (lower gs i r) ∷ doing (finish gs r)
-      ∷ due go ∷ due (sent c) ∷ due (got c) ∷ due (chose c)
-      ∷ []
-
-  -- each has the shape of its number
-  shapes : ShapesFrom 0 progresses
-  unfolding progress-words
-  shapes =
-      (record { words = refl; valid = refl; places = fits-nothing }
-      , (stage 1 (lit≤ tt) (lit≤ tt) _ refl (simp and-true)
-      , (stage 2 (lit≤ tt) (lit≤ tt) _ refl (simp and-true)
-      , (stage 3 (lit≤ tt) (lit≤ tt) _ refl (simp and-true)
-      , (stage 4 (lit≤ tt) (lit≤ tt) _ refl (simp and-true)
-      , (stage 5 (lit≤ tt) (lit≤ tt) _ refl (simp and-true)
-      , (stage 6 (lit≤ tt) (lit≤ tt) _ refl (simp and-true)
-      , (stage 7 (lit≤ tt) (lit≤ tt) _ refl (simp and-true)
-      , (stage 8 (lit≤ tt) (lit≤ tt) _ refl (simp and-true)
-      , (stage 9 (lit≤ tt) (lit≤ tt) _ refl (simp and-true)
-      , (stage 10 (lit≤ tt) (lit≤ tt) _ refl (simp and-true)
-      , (stage 11 (lit≤ tt) (lit≤ tt) _ refl (simp and-true)
-      , (stage 12 (lit≤ tt) (lit≤ tt) _ refl (simp and-true)
-      , (stage 13 (lit≤ tt) (lit≤ tt) _ refl (simp and-true)
-      , (stage 14 (lit≤ tt) (lit≤ tt) _ refl (simp and-true)
-      , (stage 15 (lit≤ tt) (lit≤ tt) _ refl (simp and-true)
-      , (stage 16 (lit≤ tt) (lit≤ tt) _ refl (simp and-true)
-      , (stage 17 (lit≤ tt) (lit≤ tt) _ refl refl
-      , (stage 18 (lit≤ tt) (lit≤ tt) _ refl refl
-      , (stage 19 (lit≤ tt) (lit≤ tt) _ refl (simp and-true)
-      , (outcome 20 (lit≤ tt) _ refl (simp and-true)
-      , (outcome 21 (lit≤ tt) _ refl (simp and-true)
-      , (outcome 22 (lit≤ tt) _ refl (simp and-true)
-      , (outcome 23 (lit≤ tt) _ refl (simp and-true)
-      , tt))))))))))))))))))))))))
-
-  -- a number that isn't one of them is read as nothing
-  pub shape-beyond : (n : ℕ) → 24 ≤ n → progress-from n c q gs i r ≡ nothing
-  unfolding progress-from
-  shape-beyond n b = List·getD-eq-default progresses nothing b
-
-  -- The progress of each number has its shape.
-  pub shape-of : (n : ℕ) → n ≤ 23 → Shape n (progress-from n c q gs i r)
-  unfolding progress-from
-  shape-of n b = subst (λ (m : ℕ). Shape m (progress-from n c q gs i r)) (zero-add n) (shape-at progresses 0 n shapes (omega arith))
+  -- The progress of each number has its shape, and what is no number of one is read as nothing.
+  pub shape-of : (n : ℕ) → (n ≤ 23 → Shape n (progress-from n c q gs i r)) × (24 ≤ n → progress-from n c q gs i r ≡ nothing)
+  unfolding progress-from progress-words
+  shape-of n =
+      let found = shape-at (row (record { words = refl; valid = refl; places = fits-nothing })
+      (row (stage 1 tt (look sending c) refl (simp and-true))
+      (row (stage 2 tt (park sending c) refl (simp and-true))
+      (row (stage 3 tt (copy sending c q) refl (simp and-true))
+      (row (stage 4 tt (clear sending c q) refl (simp and-true))
+      (row (stage 5 tt (wake sending c q) refl (simp and-true))
+      (row (stage 6 tt (look receiving c) refl (simp and-true))
+      (row (stage 7 tt (park receiving c) refl (simp and-true))
+      (row (stage 8 tt (copy receiving c q) refl (simp and-true))
+      (row (stage 9 tt (clear receiving c q) refl (simp and-true))
+      (row (stage 10 tt (wake receiving c q) refl (simp and-true))
+      (row (stage 11 tt (enable-look gs i) refl (simp and-true))
+      (row (stage 12 tt (raise gs i) refl (simp and-true))
+      (row (stage 13 tt (place-name gs i) refl (simp and-true))
+      (row (stage 14 tt (ready-from-look gs i) refl (simp and-true))
+      (row (stage 15 tt (ready-from-place gs i) refl (simp and-true))
+      (row (stage 16 tt (wait gs) refl (simp and-true))
+      (row (stage 17 tt (disable gs i r) refl refl)
+      (row (stage 18 tt (lower gs i r) refl refl)
+      (row (stage 19 tt (finish gs r) refl (simp and-true))
+      (row (outcome 20 tt go refl (simp and-true))
+      (row (outcome 21 tt (sent c) refl (simp and-true))
+      (row (outcome 22 tt (got c) refl (simp and-true))
+      (row (outcome 23 tt (chose c) refl (simp and-true))
+      end)))))))))))))))))))))))) n in
+      (λ b. subst (λ (m : ℕ). Shape m (progress-from n c q gs i r)) (zero-add n) (found .0 (omega arith)), found .1)

@@ -1,22 +1,21 @@
 -- A sound table fits: its parts are those of a valid state, and its words those of the state's packing.
-use Prim.Native.Nat.{ℕ, zero, suc, _+_, _*_, _≤_, _<_}
+use Prim.Native.Nat.{ℕ, zero, suc, _+_, _≤_, _<_}
 use mathlib.Core.Path.{_≡_, refl, sym, ap, _∙_, subst}
 use mathlib.Core.Bool.{Bool, true, false, _&&_}
-use mathlib.Core.List.{List, [], _∷_, _++_, map}
+use mathlib.Core.List.{List, [], _∷_}
 use native.Mathlib.Omega.{arith}
-use native.Mathlib.Nat.{zero-add, add-zero}
+use native.Mathlib.Nat.{zero-add}
 use lib.Dec.{T, leb, eqb, lit<, eqb→eq}
 use lib.ListN.{length, getD, replicate, getD-replicate}
 use borrow.Author.Tests.{leb-true, leb-false}
-use Rattle.rules.specs.Lists.{within, all, total, tabulate, from, times, first, last, follows, bit}
-use Rattle.rules.specs.State.{Place, running, queued, asleep, ended, no-task, trigger, wake-up, Work, runs, free, Core, Process, Channel, queues-of, State, Wiring, wiring}
-use Rattle.rules.specs.Items.{core-of, process-of, channel-of, no-core, no-channel}
-use Rattle.rules.specs.SetUp.{room, sizes}
+use Rattle.rules.specs.Lists.{all, total, tabulate, from, times, first, last, bit}
+use Rattle.rules.specs.State.{Place, running, queued, asleep, ended, Work, runs, free, Core, Process, Channel, queues-of, State, Wiring, wiring}
+use Rattle.rules.specs.Items.{core-of, process-of, no-core, no-channel}
+use Rattle.rules.specs.SetUp.{sizes}
 use Rattle.rules.specs.Packing.{
   heads,
   place-number,
   work-words,
-  core-words,
   progress-words,
   next-link,
   head-link,
@@ -35,24 +34,49 @@ use Rattle.rules.specs.Packing.{
   view-channel,
   view,
 }
-use Rattle.rules.specs.Soundness.{runs-it, valid-progress, fits, on-cores, in-queues, stands, valid-process, valid-work, valid-core, valid-channel, valid}
+use Rattle.rules.specs.Soundness.{
+  runs-it,
+  valid-progress,
+  fits,
+  on-cores,
+  in-queues,
+  stands,
+  valid-process,
+  valid-work,
+  valid-core,
+  valid-channel,
+  valid,
+}
 use Rattle.packing.proofs.Blocks.{length-work-words, length-progress-words, second-part, pack-holds}
 use Rattle.packing.proofs.Tabulate.{tabulate-back}
 use Rattle.packing.proofs.Reflect.{both, four, within-means, all-at, Valid, valid-means}
-use Rattle.packing.proofs.Sums.{Among, positive-term}
+use Rattle.packing.proofs.Sums.{positive-term}
 use Rattle.packing.proofs.Chains.{queue-of, queue-among, next-follows, heads-among, batch-follows, heads-in-core, queued-once, queued-range}
 use Rattle.packing.proofs.Reading.{state-words, link-words, state-word, progress-word, link-word}
 use Rattle.packing.proofs.ViewCore.{queue-words, work-word, queue-word}
-use Rattle.soundness.proofs.Walks.{Apart, Linked, Queue, next-of, batch-of, batch-behind, Batch, Heads}
+use Rattle.soundness.proofs.Exact.{Apart}
+use Rattle.soundness.proofs.Walks.{Linked, next-of, batch-of, batch-behind, Batch}
 use Rattle.soundness.proofs.CoreWalks.{standing, load, CoreFits, chain-first, heads-of, heads-are}
 use Rattle.soundness.proofs.Views.{cores-of-view, processes-of-view, channels-of-view, core-of-view, process-of-view, channel-of-view}
 use Rattle.soundness.proofs.FitsCore.{FlatCore, means-core-fits}
 use Rattle.soundness.proofs.FitsProcess.{FlatProcess, NoLinks, meeting-exact}
 use Rattle.soundness.proofs.Fitting.{HeaderFits, header-processes, Fitting}
-use Rattle.soundness.proofs.Links.{linked-back, last-from-zero, head-found, heads-in, heads-le, standing-is, load-is, no-next, no-head-link, no-batch-link, head-keeps}
+use Rattle.soundness.proofs.Links.{
+  linked-back,
+  last-from-zero,
+  head-found,
+  heads-in,
+  heads-le,
+  standing-is,
+  load-is,
+  no-next,
+  no-head-link,
+  no-batch-link,
+  head-keeps,
+}
 use Rattle.soundness.proofs.FitsValid.{batch-from, heads-below}
 use Rattle.soundness.proofs.Tests.{bit-positive}
-use Rattle.soundness.specs.Twin.{word, meeting-fits, core-fits}
+use Rattle.soundness.specs.Twin.{word, meeting-fits}
 
 -- words that are those of a list of this length
 words-block : (f : ℕ → ℕ) (a n : ℕ) (l : List ℕ) → length l ≡ n → ((i : ℕ) → i < n → f (a + i) ≡ getD l i 0) → l ≡ tabulate f a n
@@ -75,12 +99,14 @@ runs-range w q (runs p) h b = subst (λ (n : ℕ). (1 ≤ n) × (n ≤ w .N)) (e
 runs-range w q (free x) h b = absurd (omega arith)
 
 module _ (t : List ℕ) (good : T (valid (view t))) (packed : pack (view t) ≡ t) where
+  -- the state that is read out, and its wiring
   abbrev s : State
   s = view t
 
   abbrev w : Wiring
   w = wiring (view t)
 
+  -- the state is valid
   v : Valid s
   v = valid-means s good
 
@@ -100,10 +126,11 @@ module _ (t : List ℕ) (good : T (valid (view t))) (packed : pack (view t) ≡ 
         sizes = rw (cores-of-view, processes-of-view, channels-of-view) at (parts .0);
         length = rw (cores-of-view, processes-of-view, channels-of-view) at (ap length (sym packed) ∙ pack-holds s .size);
         unused = λ i b.
-          subst (λ (u : List ℕ). word u (3 + i) ≡ getD (header-words s) (3 + i) 0) packed (pack-holds s .header (3 + i) (omega arith))
-          ∙ second-part (w .K ∷ w .N ∷ length (s .channels) ∷ []) (replicate 5 0) 3 i refl ∙ getD-replicate 5 i 0 0 b;
+            subst (λ (u : List ℕ). word u (3 + i) ≡ getD (header-words s) (3 + i) 0) packed (pack-holds s .header (3 + i) (omega arith))
+            ∙ second-part (w .K ∷ w .N ∷ length (s .channels) ∷ []) (replicate 5 0) 3 i refl ∙ getD-replicate 5 i 0 0 b;
       }
 
+  -- there is a process
   some : 1 ≤ N-of t
   some = header-processes t header-fits .0
 
@@ -112,18 +139,21 @@ module _ (t : List ℕ) (good : T (valid (view t))) (packed : pack (view t) ≡ 
   links p l b f c = subst (λ (u : List ℕ). process-word u p (20 + f) ≡ getD (link-words s p) f 0) packed (link-word s p l b f c)
 
   module _ (k : ℕ) (b : k < K-of t) where
+    -- the core is one of the state
     inside : k < length (s .cores)
     inside = subst (λ (n : ℕ). k < n) (sym (cores-of-view t)) b
 
+    -- namely this
     core : core-of s k ≡ view-core t k
     core = core-of-view t k b
 
-    -- the words of the core
+    -- the words of its work
     work-words-are : (f : ℕ) → f < 3 → core-word t k f ≡ getD (work-words (view-core t k .work)) f 0
     work-words-are f d =
         subst (λ (u : List ℕ). core-word u k f ≡ getD (work-words (view-core t k .work)) f 0) packed
         (work-word s v k inside f d ∙ ap (λ (x : Core). getD (work-words (x .work)) f 0) core)
 
+    -- the words behind its work
     queue-words-are : (f : ℕ) → f < 13 → core-word t k (3 + f) ≡ getD (queue-words (view-core t k)) f 0
     queue-words-are f d =
         subst (λ (u : List ℕ). core-word u k (3 + f) ≡ getD (queue-words (view-core t k)) f 0) packed
@@ -134,16 +164,19 @@ module _ (t : List ℕ) (good : T (valid (view t))) (packed : pack (view t) ≡ 
     unfolding view-core
     flat =
         record {
-          work = (subst (λ (x : Core). T (valid-work w (x .work))) core (v .cores k inside .work),
-            words-block (core-word t k) 0 3 (work-words (view-core t k .work)) (length-work-words (view-core t k .work)) (λ i d. ap (core-word t k) (zero-add i) ∙ work-words-are i d));
+          work = (
+            subst (λ (x : Core). T (valid-work w (x .work))) core (v .cores k inside .work),
+            words-block (core-word t k) 0 3 (work-words (view-core t k .work)) (length-work-words (view-core t k .work))
+                (λ i d. ap (core-word t k) (zero-add i) ∙ work-words-are i d),
+          );
           dispatch = subst (λ (x : Core). x .dispatch ≤ 32) core (v .cores k inside .dispatch);
           mark = sym (queue-words-are 4 (lit< tt));
           unused = λ f d.
-            let x = view-core t k in
-            let l = first (x .active) ∷ last (x .active) ∷ length (x .active) ∷ x .dispatch ∷ bit (x .mark) ∷ first (heads (x .run-queue))
-                      ∷ last (heads (x .run-queue)) ∷ [] in
-            let place : core-at k 10 + f ≡ core-at k (3 + (7 + f)) = omega arith in
-            ap (word t) place ∙ queue-words-are (7 + f) (omega arith) ∙ second-part l (replicate 6 0) 7 f refl ∙ getD-replicate 6 f 0 0 d;
+              let x = view-core t k in
+              let l = first (x .active) ∷ last (x .active) ∷ length (x .active) ∷ x .dispatch ∷ bit (x .mark) ∷ first (heads (x .run-queue))
+              ∷ last (heads (x .run-queue)) ∷ [] in
+              let place : core-at k 10 + f ≡ core-at k (3 + (7 + f)) = omega arith in
+              ap (word t) place ∙ queue-words-are (7 + f) (omega arith) ∙ second-part l (replicate 6 0) 7 f refl ∙ getD-replicate 6 f 0 0 d;
         }
 
     -- its queues are linked
@@ -161,17 +194,18 @@ module _ (t : List ℕ) (good : T (valid (view t))) (packed : pack (view t) ≡ 
         (chain-first (next-of t) (N-of t) p some)
         (subst (λ (m : List ℕ). Linked (next-of t) (first m) m) e h)
 
+    -- the heads of its batches
     heads-eq : heads (core-of s k .run-queue) ≡ heads-of t k
     heads-eq = ap (λ (x : Core). heads (x .run-queue)) core ∙ heads-are t some k
 
-    -- and so are the heads of its batches
+    -- they are linked, too
     heads-linked : Linked (batch-behind t) (core-word t k 8) (heads-of t k)
     heads-linked =
         let a = heads-among s v k inside in
         let l = heads (core-of s k .run-queue) in
         let from-first : Linked (batch-behind t) (first l) l =
-          linked-back (length (s .processes)) (batch-behind t) l a
-          (λ p m. let r = a .range p m in links p (r .0) (r .1) 3 (lit< tt) ∙ batch-follows s v k inside p m) in
+        linked-back (length (s .processes)) (batch-behind t) l a
+        (λ p m. let r = a .range p m in links p (r .0) (r .1) 3 (lit< tt) ∙ batch-follows s v k inside p m) in
         let at-first : first (heads-of t k) ≡ core-word t k 8 = chain-first (batch-behind t) (N-of t) (core-word t k 8) some in
         subst (λ (n : ℕ). Linked (batch-behind t) n (heads-of t k)) at-first
         (subst (λ (m : List ℕ). Linked (batch-behind t) (first m) m) heads-eq from-first)
@@ -198,6 +232,7 @@ module _ (t : List ℕ) (good : T (valid (view t))) (packed : pack (view t) ≡ 
           };
         }
 
+    -- it fits
     core-here : CoreFits t k
     unfolding view-core
     core-here =
@@ -229,20 +264,30 @@ module _ (t : List ℕ) (good : T (valid (view t))) (packed : pack (view t) ≡ 
   -- no process stands in two places
   places-apart : Apart (N-of t) (λ q. 0) (λ q. total (standing q) (s .cores))
   places-apart q m =
-      let r = standing-range q (omega (arith, standing-is s q)) in
-      (r .0, subst (λ (n : ℕ). q ≤ n) (processes-of-view t) (r .1), refl,
-        omega (arith, standing-is s q, stands-total (on-cores s q) (in-queues s q) (process-of s q .place) (v .processes q (r .0) (r .1) .stands)))
+      let r = standing-range q (omega (arith, standing-is s q)) in (
+        r .0,
+        subst (λ (n : ℕ). q ≤ n) (processes-of-view t) (r .1),
+        refl,
+        omega (
+          arith,
+          standing-is s q,
+          stands-total (on-cores s q) (in-queues s q) (process-of s q .place) (v .processes q (r .0) (r .1) .stands),
+        ),
+      )
 
   module _ (p : ℕ) (l : 1 ≤ p) (b : p ≤ N-of t) where
+    -- the process is one of the state
     exists : p ≤ length (s .processes)
     exists = subst (λ (n : ℕ). p ≤ n) (sym (processes-of-view t)) b
 
+    -- namely this
     process : process-of s p ≡ view-process t p
     process = process-of-view t p l b
 
     -- words of its own that are packed from the a-th word on
     read-is : (f : Process → List ℕ) (a n : ℕ) → length (f (process-of s p)) ≡ n
-        → ((i : ℕ) → i < n → process-word (pack s) p (a + i) ≡ getD (f (process-of s p)) i 0) → f (view-process t p) ≡ tabulate (process-word t p) a n
+        → ((i : ℕ) → i < n → process-word (pack s) p (a + i) ≡ getD (f (process-of s p)) i 0)
+        → f (view-process t p) ≡ tabulate (process-word t p) a n
     read-is f a n size e =
         ap f (sym process) ∙ words-block (process-word (pack s) p) a n (f (process-of s p)) size e
         ∙ ap (λ (u : List ℕ). tabulate (process-word u p) a n) packed
@@ -280,7 +325,7 @@ module _ (t : List ℕ) (good : T (valid (view t))) (packed : pack (view t) ≡ 
         let state = process-here .state in
         let place : process-word t p 0 ≡ place-number y = cc in
         let stands-here : T (stands (on-cores s p) (in-queues s p) y) =
-          subst (λ (x : Process). T (stands (on-cores s p) (in-queues s p) (x .place))) process (v .processes p l exists .stands) in
+        subst (λ (x : Process). T (stands (on-cores s p) (in-queues s p) (x .place))) process (v .processes p l exists .stands) in
         rw (place, load-is)
         (meeting-exact t (K-of t) p (on-cores s p) (in-queues s p) (heads-in s p) y (stands-total (on-cores s p) (in-queues s p) y stands-here)
         (heads-below t some core-here p) .1 (stands-here, no-links))

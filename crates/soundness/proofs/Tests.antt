@@ -12,15 +12,6 @@ use Rattle.packing.proofs.Reflect.{both, five, together}
 use Rattle.packing.proofs.Sums.{head-stands}
 use Rattle.soundness.specs.Twin.{word, zeros}
 
--- a test that is true holds
-pub true-holds : (t : Bool) → t ≡ true → T t
-true-holds t e = subst T (sym e) tt
-
--- and one that holds is true
-pub holds-true : (t : Bool) → T t → t ≡ true
-holds-true true h = refl
-holds-true false h = absurd h
-
 -- equal numbers
 pub equal-holds : (a b : ℕ) → a ≡ b → T (eqb a b)
 equal-holds a b e = subst (λ (n : ℕ). T (eqb a n)) e (eqb-refl a)
@@ -37,6 +28,21 @@ all-three a b c x y z = together (a && b) c (together a b x y) z
 pub all-four : (a b c d : Bool) → T a → T b → T c → T d → T (a && b && c && d)
 all-four a b c d x y z u = together (a && b && c) d (all-three a b c x y z) u
 
+-- five tests
+pub all-five : (a b c d e : Bool) → T a → T b → T c → T d → T e → T (a && b && c && d && e)
+all-five a b c d e x y z u v = together (a && b && c && d) e (all-four a b c d x y z u) v
+
+-- six tests
+pub all-six : (a b c d e f : Bool) → T a → T b → T c → T d → T e → T f → T (a && b && c && d && e && f)
+all-six a b c d e f x y z u v w = together (a && b && c && d && e) f (all-five a b c d e x y z u v) w
+
+-- each of six tests holds
+pub six : (a b c d e f : Bool) → T (a && b && c && d && e && f) → T a × T b × T c × T d × T e × T f
+six a b c d e f h =
+    let t = both (a && b && c && d && e) f h in
+    let u = five a b c d e (t .0) in
+    (u .0, u .1, u .2, u .3, u .4, t .1)
+
 -- a test with another that is true
 pub and-true : (a : Bool) → (a && true) ≡ a
 and-true true = refl
@@ -49,6 +55,7 @@ zeros-mean t a (suc n) h zero b = rw add-zero (eqb→eq (word t a) 0 (both (eqb 
 zeros-mean t a (suc n) h (suc i) b =
     ap (word t) (omega arith) ∙ zeros-mean t (suc a) n (both (eqb (word t a) 0) (zeros t (suc a) n) h .1) i (omega arith)
 
+-- words that are 0
 pub zeros-hold : (t : List ℕ) (a n : ℕ) → ((i : ℕ) → i < n → word t (a + i) ≡ 0) → T (zeros t a n)
 zeros-hold t a zero e = tt
 zeros-hold t a (suc n) e =
@@ -61,6 +68,7 @@ bit-means zero h = refl
 bit-means (suc zero) h = refl
 bit-means (suc (suc n)) h = absurd (omega (arith, leb→le (suc (suc n)) 1 h))
 
+-- and the number of a test is 0 or 1
 pub bit-holds : (t : Bool) (n : ℕ) → bit t ≡ n → T (leb n 1)
 bit-holds true n e = le→leb n 1 (omega arith)
 bit-holds false n e = le→leb n 1 (omega arith)
@@ -70,20 +78,11 @@ pub and-as : (a b b′ : Bool) → (T a → b ≡ b′) → (a && b) ≡ (a && b
 and-as true b b′ e = e tt
 and-as false b b′ e = refl
 
--- five tests, six tests
-pub all-five : (a b c d e : Bool) → T a → T b → T c → T d → T e → T (a && b && c && d && e)
-all-five a b c d e x y z u v = together (a && b && c && d) e (all-four a b c d x y z u) v
-
-pub six : (a b c d e f : Bool) → T (a && b && c && d && e && f) → T a × T b × T c × T d × T e × T f
-six a b c d e f h = let t = both (a && b && c && d && e) f h in let u = five a b c d e (t .0) in (u .0, u .1, u .2, u .3, u .4, t .1)
-
-pub all-six : (a b c d e f : Bool) → T a → T b → T c → T d → T e → T f → T (a && b && c && d && e && f)
-all-six a b c d e f x y z u v w = together (a && b && c && d && e) f (all-five a b c d e x y z u v) w
-
 -- a test that holds of a, a + 1, .. (n of them)
 pub from-holds : (f : ℕ → Bool) (a n : ℕ) → ((i : ℕ) → a ≤ i → i < a + n → T (f i)) → T (all f (from a n))
 from-holds f a zero h = tt
-from-holds f a (suc n) h = together (f a) (all f (from (suc a) n)) (h a (omega arith) (omega arith)) (from-holds f (suc a) n (λ i l b. h i (omega arith) (omega arith)))
+from-holds f a (suc n) h =
+    together (f a) (all f (from (suc a) n)) (h a (omega arith) (omega arith)) (from-holds f (suc a) n (λ i l b. h i (omega arith) (omega arith)))
 
 -- a test that holds of each member of a list
 pub all-holds : {A : Type 0} (f : A → Bool) (l : List A) (d : A) → ((i : ℕ) → i < length l → T (f (getD l i d))) → T (all f l)

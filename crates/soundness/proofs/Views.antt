@@ -1,14 +1,14 @@
 -- The parts of the state that is read out of a table.
-use Prim.Native.Nat.{ℕ, zero, suc, _+_, _-_, _≤_, _<_}
+use Prim.Native.Nat.{ℕ, zero, suc, _+_, _≤_, _<_}
 use mathlib.Core.Path.{_≡_, refl, sym, ap, _∙_}
-use mathlib.Core.Bool.{Bool, true, false, _&&_}
-use mathlib.Core.List.{List, [], _∷_, map}
+use mathlib.Core.Bool.{_&&_}
+use mathlib.Core.List.{List, _∷_}
 use native.Mathlib.Omega.{arith}
 use native.Mathlib.Nat.{add-zero, zero-add}
-use lib.Dec.{T, eqb, leb}
-use lib.ListN.{length, getD, take, length-map, List·getD-map}
+use lib.Dec.{eqb}
+use lib.ListN.{length, take, length-map, List·getD-map}
 use Rattle.rules.specs.Lists.{within, nth, tabulate}
-use Rattle.rules.specs.State.{Way, sending, receiving, Core, Process, Ends, Channel, State, Wiring, wiring, at-end, end-of}
+use Rattle.rules.specs.State.{Way, sending, receiving, Channel, State, wiring, at-end, end-of}
 use Rattle.rules.specs.Items.{no-core, no-process, no-channel, core-of, process-of, channel-of}
 use Rattle.rules.specs.Packing.{K-of, N-of, M-of, channel-word, view-core, view-process, view-channel, view}
 use Rattle.rules.specs.Soundness.{own-end}
@@ -21,7 +21,7 @@ use Rattle.soundness.specs.Twin.{end-fits}
 
 module _ {A : Type 0} where
   -- the n-th, counted from 1
-  pub tabulate-nth-at : (f : ℕ → A) (n i : ℕ) (d : A) → 1 ≤ i → i ≤ n → nth (tabulate f 1 n) i d ≡ f i
+  tabulate-nth-at : (f : ℕ → A) (n i : ℕ) (d : A) → 1 ≤ i → i ≤ n → nth (tabulate f 1 n) i d ≡ f i
   tabulate-nth-at f n zero d l b = absurd (omega arith)
   tabulate-nth-at f n (suc i) d l b = tabulate-at f 1 n d i b ∙ ap f (omega arith)
 
@@ -37,7 +37,7 @@ module _ {A : Type 0} where
   tabulate-as f g a b (suc n) e =
       let here : f a ≡ g b = ap f (sym (add-zero a)) ∙ e 0 ∙ ap g (add-zero b) in
       let behind : tabulate f (suc a) n ≡ tabulate g (suc b) n =
-        tabulate-as f g (suc a) (suc b) n (λ i. ap f (omega arith) ∙ e (suc i) ∙ ap g (omega arith)) in
+      tabulate-as f g (suc a) (suc b) n (λ i. ap f (omega arith) ∙ e (suc i) ∙ ap g (omega arith)) in
       cc
 
 -- the process at an end of a channel
@@ -48,6 +48,7 @@ end-of-channel s way (suc c) = ap (at-end way) (List·getD-map (λ (x : Channel)
 -- The view
 
 module _ (t : List ℕ) where
+  -- how many cores, processes and channels there are
   pub cores-of-view : length (view t .cores) ≡ K-of t
   unfolding view
   cores-of-view = length-tabulate (view-core t) 0 (K-of t)

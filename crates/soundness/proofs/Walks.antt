@@ -1,108 +1,40 @@
 -- What the walks of the check find. Each walk is exact: it finds no flaw just where what it looks for holds, and then it has met just
 -- what it went over.
-use Prim.Native.Nat.{ℕ, zero, suc, _+_, _*_, _≤_, _<_}
-use mathlib.Core.Path.{_≡_, refl, sym, ap, _∙_, subst}
+use Prim.Native.Nat.{ℕ, zero, suc, _+_, _*_, _≤_}
+use mathlib.Core.Path.{_≡_, refl, ap, subst}
 use mathlib.Core.Bool.{Bool, true, false, _&&_}
 use mathlib.Core.List.{List, [], _∷_, map}
 use native.Mathlib.Omega.{arith}
-use lib.Dec.{T, eqb, leb, eqb→eq, eqb-refl, le→leb, eqb·suc-zero}
-use lib.ListN.{length, getD, set, length-set}
-use lib.Seq.{getD-set-same, getD-set-other}
-use borrow.Author.Tests.{eqb-true, eqb-false, leb-true, leb-false, eq-eqb, ne-eqb}
+use lib.Dec.{T, eqb, eqb→eq, eqb·suc-zero}
+use lib.ListN.{length, set}
+use borrow.Author.Tests.{eqb-true}
 use Rattle.rules.specs.Lists.{if_then_else_, within, total, bit, times}
 use Rattle.rules.specs.Packing.{K-of, N-of, process-at, core-word, process-word, chain}
 use Rattle.packing.proofs.Reflect.{both, three, together, within-means}
 use Rattle.packing.proofs.Sums.{head-stands}
 use Rattle.soundness.proofs.Tests.{equal-holds, within-holds, all-three}
+use Rattle.soundness.proofs.Exact.{
+  Exact,
+  exact-if,
+  exact-then,
+  exact-as,
+  Met,
+  met-as,
+  Apart,
+  Grown,
+  apart-first,
+  apart-second,
+  apart-both,
+  fresh-means,
+  means-fresh,
+  met-set,
+  one-more,
+  one-here,
+  one-elsewhere,
+  apart-one,
+  met-one,
+}
 use Rattle.soundness.specs.Twin.{word, fresh, Walk, flaw, well, and-then, chain-walk, batch-walk}
-
--- Exact walks
-
--- The walk finds no flaw exactly where P holds, and then what was met has the property Q.
-abbrev pub Exact : Type 0 → (List ℕ → Type 0) → Walk → Type 0
-Exact P Q flaw = P → ⊥
-Exact P Q (well met) = P × Q met
-
-module _ (P : Type 0) (Q : List ℕ → Type 0) where
-  -- a test that P asks for, then a walk
-  pub exact-if : (t : Bool) (w : Walk) → (P → T t) → (T t → Exact P Q w) → Exact P Q (if t then w else flaw)
-  exact-if true w need rest = rest tt
-  exact-if false w need rest = need
-
-  -- a walk, then another
-  pub exact-then : (P′ : Type 0) (Q′ : List ℕ → Type 0) (w : Walk) (f : List ℕ → Walk) → Exact P′ Q′ w → (P → P′)
-      → ((met : List ℕ) → P′ → Q′ met → Exact P Q (f met)) → Exact P Q (and-then w f)
-  exact-then P′ Q′ flaw f e part rest = λ h. e (part h)
-  exact-then P′ Q′ (well met) f e part rest = rest met (e .0) (e .1)
-
-  -- a walk that is exact for something else that says the same
-  pub exact-as : (P′ : Type 0) (Q′ : List ℕ → Type 0) (w : Walk) → (P′ → P) → (P → P′) → ((met : List ℕ) → P → Q′ met → Q met)
-      → Exact P′ Q′ w → Exact P Q w
-  exact-as P′ Q′ flaw to back met e = λ h. e (back h)
-  exact-as P′ Q′ (well m) to back met e = let h = to (e .0) in (h, met m h (e .1))
-
--- What was met
-
--- the numbers of what was met are those of c
-pub record Met (N : ℕ) (c : ℕ → ℕ) (met : List ℕ) : Type 0 where
-  pub room : N < length met
-  pub each : (q : ℕ) → 1 ≤ q → q ≤ N → getD met q 0 ≡ c q
-
--- other numbers that are the same
-pub met-as : (N : ℕ) (c c′ : ℕ → ℕ) (met : List ℕ) → ((q : ℕ) → c q ≡ c′ q) → Met N c met → Met N c′ met
-met-as N c c′ met same agrees = record { room = agrees .room; each = λ q l b. agrees .each q l b ∙ same q }
-
--- what stands m times is a process that isn't counted by c, and stands once
-abbrev pub Apart : ℕ → (ℕ → ℕ) → (ℕ → ℕ) → Type 0
-Apart N c m = (q : ℕ) → 1 ≤ m q → (1 ≤ q) × (q ≤ N) × (c q ≡ 0) × (m q ≤ 1)
-
--- c′ counts what c counts and what stands m times
-abbrev pub Grown : (ℕ → ℕ) → (ℕ → ℕ) → (ℕ → ℕ) → Type 0
-Grown c m c′ = (q : ℕ) → (c′ q ≡ 0 → c q + m q ≡ 0) × (c q + m q ≡ 0 → c′ q ≡ 0)
-
-module _ (N : ℕ) (c m c′ m′ : ℕ → ℕ) where
-  -- the first part of what is apart
-  pub apart-first : Apart N c (λ q. m q + m′ q) → Apart N c m
-  apart-first a q h = let r = a q (omega arith) in (r .0, r .1, r .2, omega arith)
-
-  -- the second part, once the first is counted
-  pub apart-second : Grown c m c′ → Apart N c (λ q. m q + m′ q) → Apart N c′ m′
-  apart-second g a q h = let r = a q (omega arith) in (r .0, r .1, g q .1 (omega arith), omega arith)
-
-  -- both parts together
-  pub apart-both : Grown c m c′ → Apart N c m → Apart N c′ m′ → Apart N c (λ q. m q + m′ q)
-  apart-both g a b q h = cases (leb 1 (m′ q)) refl
-    where
-      cases : (t : Bool) → leb 1 (m′ q) ≡ t → (1 ≤ q) × (q ≤ N) × (c q ≡ 0) × (m q + m′ q ≤ 1)
-      cases true e = let r = b q (leb-true 1 (m′ q) e) in let z = g q .0 (r .2) in (r .0, r .1, omega arith, omega arith)
-      cases false e = let l = leb-false 1 (m′ q) e in let r = a q (omega arith) in (r .0, r .1, r .2, omega arith)
-
-module _ (N : ℕ) (c : ℕ → ℕ) (met : List ℕ) (agrees : Met N c met) where
-  -- who is fresh is a process that isn't counted
-  pub fresh-means : (p : ℕ) → T (fresh N met p) → (1 ≤ p) × (p ≤ N) × (c p ≡ 0)
-  fresh-means p h =
-      let t = both (within 1 N p) (eqb (getD met p 0) 0) h in
-      let r = within-means 1 N p (t .0) in
-      (r .0, r .1, sym (agrees .each p (r .0) (r .1)) ∙ eqb→eq (getD met p 0) 0 (t .1))
-
-  pub means-fresh : (p : ℕ) → 1 ≤ p → p ≤ N → c p ≡ 0 → T (fresh N met p)
-  means-fresh p l b z =
-      together (within 1 N p) (eqb (getD met p 0) 0) (within-holds 1 N p l b) (equal-holds (getD met p 0) 0 (agrees .each p l b ∙ z))
-
-  -- another number for one process
-  pub met-set : (c′ : ℕ → ℕ) (p v : ℕ) → 1 ≤ p → p ≤ N → c′ p ≡ v → ((q : ℕ) → (p ≡ q → ⊥) → c′ q ≡ c q) → Met N c′ (set met p v)
-  met-set c′ p v l b here other =
-      record { room = omega (arith, agrees .room, length-set met p v); each = λ q l′ b′. cases q l′ b′ (eqb p q) refl }
-    where
-      cases : (q : ℕ) → 1 ≤ q → q ≤ N → (t : Bool) → eqb p q ≡ t → getD (set met p v) q 0 ≡ c′ q
-      cases q l′ b′ true e =
-          let same : p ≡ q = eqb-true p q e in
-          subst (λ (r : ℕ). getD (set met p v) r 0 ≡ c′ r) same (getD-set-same met p v 0 (omega (arith, agrees .room)) ∙ sym here)
-      cases q l′ b′ false e =
-          let ne : p ≡ q → ⊥ = eqb-false p q e in
-          getD-set-other met p q v 0 (λ x. ne (sym x)) ∙ agrees .each q l′ b′ ∙ sym (other q ne)
-
--- Queues
 
 -- from p on, the links go over the list, and end behind it
 abbrev pub Linked : (ℕ → ℕ) → ℕ → List ℕ → Type 0
@@ -120,44 +52,18 @@ pub record Queue (link : ℕ → ℕ) (at-last at-size p last size : ℕ) (l : L
   pub last-is : at-last ≡ last-from last l
   pub size-is : at-size ≡ size + length l
 
--- one more for what stands in one place
-abbrev pub one-more : ℕ → ℕ → ℕ
-one-more p q = bit (eqb p q)
-
-pub one-here : (p : ℕ) → one-more p p ≡ 1
-one-here p = ap bit (eq-eqb p p refl)
-
-pub one-elsewhere : (p q : ℕ) → (p ≡ q → ⊥) → one-more p q ≡ 0
-one-elsewhere p q ne = ap bit (ne-eqb p q ne)
-
 -- the first of a linked list stands in it
 pub first-stands : (link : ℕ → ℕ) (p : ℕ) (l : List ℕ) → Linked link p l → 1 ≤ p → (q : ℕ) → one-more p q ≤ times q l
 first-stands link p [] h b q = absurd (omega arith)
 first-stands link p (x ∷ xs) h b q = omega (arith, ap (λ (y : ℕ). one-more y q) (h .0))
 
 -- what holds of a number, and of each in a list, holds of each in both
-pub each-more : (C : ℕ → Type 0) (x : ℕ) (xs : List ℕ) → C x → ((y : ℕ) → 1 ≤ times y xs → C y) → (y : ℕ) → 1 ≤ times y (x ∷ xs) → C y
+each-more : (C : ℕ → Type 0) (x : ℕ) (xs : List ℕ) → C x → ((y : ℕ) → 1 ≤ times y xs → C y) → (y : ℕ) → 1 ≤ times y (x ∷ xs) → C y
 each-more C x xs here rest y b = cases (eqb x y) refl
   where
     cases : (t : Bool) → eqb x y ≡ t → C y
     cases true e = subst C (eqb-true x y e) here
     cases false e = rest y (omega (arith, ap bit e))
-
--- a process that isn't counted, alone
-pub apart-one : (N : ℕ) (c : ℕ → ℕ) (p : ℕ) → (1 ≤ p) × (p ≤ N) × (c p ≡ 0) → Apart N c (one-more p)
-apart-one N c p r q h = cases (eqb p q) refl
-  where
-    cases : (t : Bool) → eqb p q ≡ t → (1 ≤ q) × (q ≤ N) × (c q ≡ 0) × (one-more p q ≤ 1)
-    cases true e =
-        let same : p ≡ q = eqb-true p q e in
-        let none : c q ≡ 0 = ap c (sym same) ∙ r .2 in (omega arith, omega arith, none, omega (arith, ap bit e))
-    cases false e = absurd (omega (arith, ap bit e))
-
--- what is met once such a process has the number v
-pub met-one : (N : ℕ) (c : ℕ → ℕ) (met : List ℕ) → Met N c met → (v p : ℕ) → (1 ≤ p) × (p ≤ N) × (c p ≡ 0) → Met N (λ q. c q + v * one-more p q) (set met p v)
-met-one N c met agrees v p r =
-    met-set N c met agrees (λ q. c q + v * one-more p q) p v (r .0) (r .1) (rw (one-here p) (omega (arith, r .2)))
-    (λ q ne. rw (one-elsewhere p q ne) (omega arith))
 
 module _ (t : List ℕ) where
   -- the table's number of cores and of processes
@@ -172,31 +78,36 @@ module _ (t : List ℕ) where
   next-of p = process-word t p 20
 
   module _ (a : ℕ) where
+    -- the queue from p on, at most n long, is one whose last and size stand at the words a and a + 1, and c counts nobody of it
     abbrev pub QueueFrom : ℕ → (ℕ → ℕ) → ℕ → ℕ → ℕ → Type 0
     QueueFrom n c p last size =
         Queue next-of (word t a) (word t (a + 1)) p last size (chain next-of n p) × Apart N c (λ q. times q (chain next-of n p))
 
+    -- then it is met, with the number 2 for each
     abbrev pub MetFrom : ℕ → (ℕ → ℕ) → ℕ → List ℕ → Type 0
     MetFrom n c p = Met N (λ q. c q + 2 * times q (chain next-of n p))
 
     -- the end of a queue is found exactly
     end-exact : (met : List ℕ) (c : ℕ → ℕ) (p last size : ℕ) → Met N c met
-        → Exact (QueueFrom 0 c p last size) (MetFrom 0 c p) (if eqb p 0 && eqb (word t a) last && eqb (word t (a + 1)) size then well met else flaw)
+        → Exact (QueueFrom 0 c p last size) (MetFrom 0 c p)
+        (if eqb p 0 && eqb (word t a) last && eqb (word t (a + 1)) size then well met else flaw)
     end-exact met c p last size agrees =
-        exact-if (QueueFrom 0 c p last size) (MetFrom 0 c p) (eqb p 0 && eqb (word t a) last && eqb (word t (a + 1)) size) (well met) need rest
+        exact-if (QueueFrom 0 c p last size) (MetFrom 0 c p) (eqb p 0 && eqb (word t a) last && eqb (word t (a + 1)) size) (well met)
+        need rest
       where
         need : QueueFrom 0 c p last size → T (eqb p 0 && eqb (word t a) last && eqb (word t (a + 1)) size)
         need h =
             let q = h .0 in
-            all-three (eqb p 0) (eqb (word t a) last) (eqb (word t (a + 1)) size)
-            (equal-holds p 0 (q .linked)) (equal-holds (word t a) last (q .last-is)) (equal-holds (word t (a + 1)) size (omega (arith, q .size-is)))
+            all-three (eqb p 0) (eqb (word t a) last) (eqb (word t (a + 1)) size) (equal-holds p 0 (q .linked))
+            (equal-holds (word t a) last (q .last-is)) (equal-holds (word t (a + 1)) size (omega (arith, q .size-is)))
 
         rest : T (eqb p 0 && eqb (word t a) last && eqb (word t (a + 1)) size) → QueueFrom 0 c p last size × MetFrom 0 c p met
         rest h =
             let r = three (eqb p 0) (eqb (word t a) last) (eqb (word t (a + 1)) size) h in
-            let size-is : word t (a + 1) ≡ size + 0 = omega (arith, eqb→eq (word t (a + 1)) size (r .2)) in
-            ((record { linked = eqb→eq p 0 (r .0); last-is = eqb→eq (word t a) last (r .1); size-is = size-is }, λ q b. absurd (omega arith)),
-              met-as N c _ met (λ q. omega arith) agrees)
+            let size-is : word t (a + 1) ≡ size + 0 = omega (arith, eqb→eq (word t (a + 1)) size (r .2)) in (
+              (record { linked = eqb→eq p 0 (r .0); last-is = eqb→eq (word t a) last (r .1); size-is = size-is }, λ q b. absurd (omega arith)),
+              met-as N c _ met (λ q. omega arith) agrees,
+            )
 
     -- a queue is found exactly
     pub chain-exact : (n : ℕ) (met : List ℕ) (c : ℕ → ℕ) (p last size : ℕ) → Met N c met
@@ -206,8 +117,8 @@ module _ (t : List ℕ) where
     chain-exact (suc n) met c (suc p) last size agrees =
         rw eqb·suc-zero
         (exact-if P Q (fresh N met (suc p)) rest-walk need (λ f. let r = fresh-means N c met agrees (suc p) f in
-          exact-as P Q P′ Q′ rest-walk (to r) back (λ m h. met-as N _ _ m (λ q. omega arith))
-          (chain-exact n (set met (suc p) 2) c′ (next-of (suc p)) (suc p) (size + 1) (met-one N c met agrees 2 (suc p) r))))
+        exact-as P Q P′ Q′ rest-walk (to r) back (λ m. met-as N _ _ m (λ q. omega arith))
+        (chain-exact n (set met (suc p) 2) c′ (next-of (suc p)) (suc p) (size + 1) (met-one N c met agrees 2 (suc p) r))))
       where
         rest-walk : Walk
         rest-walk = chain-walk t K N a n (set met (suc p) 2) (next-of (suc p)) (suc p) (size + 1)
@@ -215,6 +126,7 @@ module _ (t : List ℕ) where
         behind : List ℕ
         behind = chain next-of n (next-of (suc p))
 
+        -- what is counted with the first
         c′ : ℕ → ℕ
         c′ q = c q + 2 * one-more (suc p) q
 
@@ -238,16 +150,19 @@ module _ (t : List ℕ) where
         grown : Grown c (one-more (suc p)) c′
         grown q = (λ e. omega arith, λ e. omega arith)
 
+        -- the queue, from its first and the rest
         to : (1 ≤ suc p) × (suc p ≤ N) × (c (suc p) ≡ 0) → P′ → P
-        to r h =
-            (record { linked = (refl, h .0 .linked); last-is = h .0 .last-is; size-is = omega (arith, h .0 .size-is) },
-              apart-both N c (one-more (suc p)) c′ (λ q. times q behind) grown (apart-one N c (suc p) r) (h .1))
+        to r h = (
+          record { linked = (refl, h .0 .linked); last-is = h .0 .last-is; size-is = omega (arith, h .0 .size-is) },
+          apart-both N c (one-more (suc p)) c′ (λ q. times q behind) grown (apart-one N c (suc p) r) (h .1),
+        )
 
+        -- and the rest of a queue
         back : P → P′
-        back h =
-            (record { linked = h .0 .linked .1; last-is = h .0 .last-is; size-is = omega (arith, h .0 .size-is) },
-              apart-second N c (one-more (suc p)) c′ (λ q. times q behind) grown (h .1))
-
+        back h = (
+          record { linked = h .0 .linked .1; last-is = h .0 .last-is; size-is = omega (arith, h .0 .size-is) },
+          apart-second N c (one-more (suc p)) c′ (λ q. times q behind) grown (h .1),
+        )
 
   -- Batches
 
@@ -272,10 +187,12 @@ module _ (t : List ℕ) where
     pub each : (h : ℕ) → 1 ≤ times h l → Batch h
 
   module _ (k : ℕ) where
+    -- the heads from this one on, at most n, are those of batches that c counts nobody of
     abbrev pub HeadsFrom : ℕ → (ℕ → ℕ) → ℕ → ℕ → Type 0
     HeadsFrom n c head prev =
         let l = chain batch-behind n head in Heads (core-word t k 9) head prev l × Apart N c (λ q. total (times q) (map batch-of l))
 
+    -- then these batches are met, with the number 3 for each head
     abbrev pub MetHeads : ℕ → (ℕ → ℕ) → ℕ → List ℕ → Type 0
     MetHeads n c head = let l = chain batch-behind n head in Met N (λ q. c q + 2 * total (times q) (map batch-of l) + times q l)
 
@@ -287,14 +204,18 @@ module _ (t : List ℕ) where
       where
         need : HeadsFrom 0 c head prev → T (eqb head 0 && eqb (core-word t k 9) prev)
         need h =
-            together (eqb head 0) (eqb (core-word t k 9) prev) (equal-holds head 0 (h .0 .linked)) (equal-holds (core-word t k 9) prev (h .0 .last-is))
+            together (eqb head 0) (eqb (core-word t k 9) prev) (equal-holds head 0 (h .0 .linked))
+            (equal-holds (core-word t k 9) prev (h .0 .last-is))
 
         rest : T (eqb head 0 && eqb (core-word t k 9) prev) → HeadsFrom 0 c head prev × MetHeads 0 c head met
         rest h =
-            let r = both (eqb head 0) (eqb (core-word t k 9) prev) h in
-            ((record { linked = eqb→eq head 0 (r .0); last-is = eqb→eq (core-word t k 9) prev (r .1); each = λ q b. absurd (omega arith) },
-              λ q b. absurd (omega arith)),
-              met-as N c _ met (λ q. omega arith) agrees)
+            let r = both (eqb head 0) (eqb (core-word t k 9) prev) h in (
+              (
+                record { linked = eqb→eq head 0 (r .0); last-is = eqb→eq (core-word t k 9) prev (r .1); each = λ q b. absurd (omega arith) },
+                λ q b. absurd (omega arith),
+              ),
+              met-as N c _ met (λ q. omega arith) agrees,
+            )
 
     -- the batches are found exactly
     pub batch-exact : (n : ℕ) (met : List ℕ) (c : ℕ → ℕ) (head prev : ℕ) → Met N c met
@@ -305,8 +226,9 @@ module _ (t : List ℕ) where
         rw eqb·suc-zero
         (exact-if P Q (within 1 N head) (and-then (chain-walk t K N a N met head 0 0) rest-walk) need
         (λ f. exact-then P Q (QueueFrom a N c head 0 0) (MetFrom a N c head) (chain-walk t K N a N met head 0 0) rest-walk
-          (chain-exact a N met c head 0 0 agrees) first
-          (λ m e g. exact-as P Q P′ Q′ (rest-walk m) (to f e) (back e) (λ m′ h. met-as N _ _ m′ (λ q. omega arith)) (batch-exact n (set m head 3) c′ (batch-behind head) head (marked f e m g)))))
+        (chain-exact a N met c head 0 0 agrees) first
+        (λ m e g. exact-as P Q P′ Q′ (rest-walk m) (to f e) (back e) (λ m′. met-as N _ _ m′ (λ q. omega arith))
+        (batch-exact n (set m head 3) c′ (batch-behind head) head (marked f e m g)))))
       where
         head : ℕ
         head = suc h
@@ -320,6 +242,7 @@ module _ (t : List ℕ) where
         behind : List ℕ
         behind = chain batch-behind n (batch-behind head)
 
+        -- what is counted with the first batch
         c′ : ℕ → ℕ
         c′ q = c q + 2 * times q (batch-of head) + one-more head q
 
@@ -347,6 +270,7 @@ module _ (t : List ℕ) where
         grown : QueueFrom a N c head 0 0 → Grown c (λ q. times q (batch-of head)) c′
         grown e q = (λ z. omega arith, λ z. omega (arith, first-stands next-of head (batch-of head) (e .0 .linked) (omega arith) q))
 
+        -- what is met once the head has its number
         marked : T (within 1 N head) → QueueFrom a N c head 0 0 → (m : List ℕ) → MetFrom a N c head m → Met N c′ (set m head 3)
         marked f e m g =
             let r = within-means 1 N head f in
@@ -356,16 +280,20 @@ module _ (t : List ℕ) where
             (omega (arith, here, first-stands next-of head (batch-of head) (e .0 .linked) (omega arith) head))
             (λ q ne. omega (arith, one-elsewhere head q ne))
 
+        -- the first batch
         this : T (within 1 N head) → QueueFrom a N c head 0 0 → Batch head
         this f e = let r = within-means 1 N head f in record { low = r .0; high = r .1; queue = e .0 }
 
+        -- the batches, from the first and the rest
         to : T (within 1 N head) → QueueFrom a N c head 0 0 → P′ → P
-        to f e h =
-            (record { linked = (refl, h .0 .linked); last-is = h .0 .last-is; each = each-more Batch head behind (this f e) (h .0 .each) },
-              apart-both N c (λ q. times q (batch-of head)) c′ (λ q. total (times q) (map batch-of behind)) (grown e) (e .1) (h .1))
+        to f e h = (
+          record { linked = (refl, h .0 .linked); last-is = h .0 .last-is; each = each-more Batch head behind (this f e) (h .0 .each) },
+          apart-both N c (λ q. times q (batch-of head)) c′ (λ q. total (times q) (map batch-of behind)) (grown e) (e .1) (h .1),
+        )
 
+        -- and the rest of them
         back : QueueFrom a N c head 0 0 → P → P′
-        back e h =
-            (record { linked = h .0 .linked .1; last-is = h .0 .last-is; each = λ x b. h .0 .each x (omega arith) },
-              apart-second N c (λ q. times q (batch-of head)) c′ (λ q. total (times q) (map batch-of behind)) (grown e) (h .1))
-
+        back e h = (
+          record { linked = h .0 .linked .1; last-is = h .0 .last-is; each = λ x b. h .0 .each x (omega arith) },
+          apart-second N c (λ q. times q (batch-of head)) c′ (λ q. total (times q) (map batch-of behind)) (grown e) (h .1),
+        )
