@@ -10,7 +10,7 @@ use lib.ListN.{length, getD}
 use Rattle.rules.specs.Lists.{within, all, from, bit, times}
 use Rattle.packing.proofs.Reflect.{both, five, together}
 use Rattle.packing.proofs.Sums.{head-stands}
-use Rattle.soundness.specs.Twin.{word, zeros}
+use Rattle.fitting.specs.Twin.{word, zeros}
 
 -- equal numbers
 pub equal-holds : (a b : ℕ) → a ≡ b → T (eqb a b)

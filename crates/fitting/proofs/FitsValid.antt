@@ -28,14 +28,14 @@ use Rattle.rules.specs.Soundness.{
   valid,
 }
 use Rattle.packing.proofs.Sums.{term-le-total, total-map}
-use Rattle.soundness.proofs.Tests.{within-holds, all-four, all-five, from-holds, all-holds, times-holds}
-use Rattle.soundness.proofs.Walks.{Linked, next-of, batch-of, Batch}
-use Rattle.soundness.proofs.CoreWalks.{CoreFits, chain-first, heads-of, heads-are, heads-stand}
-use Rattle.soundness.proofs.Views.{cores-of-view, processes-of-view, channels-of-view, core-of-view, process-of-view, channel-of-view}
-use Rattle.soundness.proofs.FitsCore.{FlatCore, core-fits-means}
-use Rattle.soundness.proofs.FitsProcess.{NoLinks, meeting-exact}
-use Rattle.soundness.proofs.Fitting.{header-processes, Fitting}
-use Rattle.soundness.proofs.Links.{heads-in, heads-le, standing-is, load-is}
+use Rattle.fitting.proofs.Tests.{within-holds, all-four, all-five, from-holds, all-holds, times-holds}
+use Rattle.fitting.proofs.Walks.{Linked, next-of, batch-of, Batch}
+use Rattle.fitting.proofs.CoreWalks.{CoreFits, chain-first, heads-of, heads-are, heads-stand}
+use Rattle.fitting.proofs.Views.{cores-of-view, processes-of-view, channels-of-view, core-of-view, process-of-view, channel-of-view}
+use Rattle.fitting.proofs.FitsCore.{FlatCore, core-fits-means}
+use Rattle.fitting.proofs.FitsProcess.{NoLinks, meeting-exact}
+use Rattle.fitting.proofs.Fitting.{header-processes, Fitting}
+use Rattle.fitting.proofs.Links.{heads-in, heads-le, standing-is, load-is}
 
 -- a linked list that begins with a process is not empty
 linked-some : (link : ℕ → ℕ) (p : ℕ) (l : List ℕ) → Linked link p l → 1 ≤ p → T (not-empty l)

@@ -15,9 +15,9 @@ use Rattle.rules.specs.Packing.{heads, next-link, if-head, head-link, batch-lin
 use Rattle.rules.specs.Soundness.{runs-it, on-cores, in-queues}
 use Rattle.packing.proofs.Sums.{total-le, term-le-total, positive-term, total-add, total-zero, total-only, total-map, Among, among-length}
 use Rattle.packing.proofs.Chains.{chain-back, follows-none}
-use Rattle.soundness.proofs.Tests.{bit-positive}
-use Rattle.soundness.proofs.Walks.{Linked, last-from}
-use Rattle.soundness.proofs.CoreWalks.{standing, load}
+use Rattle.fitting.proofs.Tests.{bit-positive}
+use Rattle.fitting.proofs.Walks.{Linked, last-from}
+use Rattle.fitting.proofs.CoreWalks.{standing, load}
 
 -- Lists and chains
 

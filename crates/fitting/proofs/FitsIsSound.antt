@@ -12,11 +12,11 @@ use Rattle.packing.proofs.Reflect.{both, same-words-means}
 use Rattle.packing.proofs.Regions.{held-once}
 use Rattle.packing.proofs.Blocks.{dims, words-of, pack-holds}
 use Rattle.packing.proofs.Means.{sound-means}
-use Rattle.soundness.proofs.Fitting.{table-exact}
-use Rattle.soundness.proofs.FitsValid.{fits-valid}
-use Rattle.soundness.proofs.FitsHolds.{fits-holds}
-use Rattle.soundness.proofs.SoundFits.{sound-fits}
-use Rattle.soundness.specs.Twin.{table-fits}
+use Rattle.fitting.proofs.Fitting.{table-exact}
+use Rattle.fitting.proofs.FitsValid.{fits-valid}
+use Rattle.fitting.proofs.FitsHolds.{fits-holds}
+use Rattle.fitting.proofs.SoundFits.{sound-fits}
+use Rattle.fitting.specs.Twin.{table-fits}
 
 -- tests that say the same are equal
 same-test : (a b : Bool) → (T a → T b) → (T b → T a) → a ≡ b

@@ -39,12 +39,12 @@ use Rattle.packing.proofs.Sums.{positive-term}
 use Rattle.packing.proofs.Chains.{next-follows, batch-follows}
 use Rattle.packing.proofs.Reading.{state-words, link-words}
 use Rattle.packing.proofs.ViewCore.{queue-words}
-use Rattle.soundness.proofs.Walks.{next-of, batch-of, batch-behind}
-use Rattle.soundness.proofs.CoreWalks.{chain-first, heads-of, heads-are}
-use Rattle.soundness.proofs.Views.{cores-of-view, processes-of-view, channels-of-view, core-of-view, process-of-view, channel-of-view}
-use Rattle.soundness.proofs.FitsChannel.{channel-words-back}
-use Rattle.soundness.proofs.Fitting.{header-processes, Fitting}
-use Rattle.soundness.proofs.Links.{
+use Rattle.fitting.proofs.Walks.{next-of, batch-of, batch-behind}
+use Rattle.fitting.proofs.CoreWalks.{chain-first, heads-of, heads-are}
+use Rattle.fitting.proofs.Views.{cores-of-view, processes-of-view, channels-of-view, core-of-view, process-of-view, channel-of-view}
+use Rattle.fitting.proofs.FitsChannel.{channel-words-back}
+use Rattle.fitting.proofs.Fitting.{header-processes, Fitting}
+use Rattle.fitting.proofs.Links.{
   linked-follows,
   last-from-zero,
   heads-in,
@@ -54,7 +54,7 @@ use Rattle.soundness.proofs.Links.{
   head-found,
   head-keeps,
 }
-use Rattle.soundness.proofs.FitsValid.{
+use Rattle.fitting.proofs.FitsValid.{
   batch-is,
   batch-from,
   batch-fits,
@@ -64,7 +64,7 @@ use Rattle.soundness.proofs.FitsValid.{
   stands-linked,
   fits-valid,
 }
-use Rattle.soundness.specs.Twin.{word}
+use Rattle.fitting.specs.Twin.{word}
 
 -- a word of a block whose words are these
 block-word : (f : ℕ → ℕ) (n i : ℕ) (l : List ℕ) → l ≡ tabulate f 0 n → i < n → f i ≡ getD l i 0

@@ -11,8 +11,8 @@ use Rattle.rules.specs.Lists.{if_then_else_, within}
 use Rattle.rules.specs.State.{nobody, plain, choosing, Wiring}
 use Rattle.rules.specs.Packing.{word-number, word-from, K-of, N-of, channel-word, channel-words, view-channel}
 use Rattle.rules.specs.Soundness.{valid-word, valid-channel}
-use Rattle.soundness.proofs.Tests.{and-true}
-use Rattle.soundness.specs.Twin.{channel-fits}
+use Rattle.fitting.proofs.Tests.{and-true}
+use Rattle.fitting.specs.Twin.{channel-fits}
 
 -- the number of a channel word that was read out of a number
 word-number-back : (n : ℕ) → word-number (word-from n) ≡ n

@@ -14,8 +14,8 @@ use Rattle.rules.specs.Packing.{K-of, N-of, M-of, channel-word, view-core, view
 use Rattle.rules.specs.Soundness.{own-end}
 use Rattle.packing.proofs.Tabulate.{length-tabulate, tabulate-at}
 use Rattle.packing.proofs.Reflect.{within-means}
-use Rattle.soundness.proofs.Tests.{and-as}
-use Rattle.soundness.specs.Twin.{end-fits}
+use Rattle.fitting.proofs.Tests.{and-as}
+use Rattle.fitting.specs.Twin.{end-fits}
 
 -- Lists built number by number
 

@@ -12,8 +12,8 @@ use Rattle.rules.specs.Lists.{if_then_else_, within, total, bit, times}
 use Rattle.rules.specs.Packing.{K-of, N-of, process-at, core-word, process-word, chain}
 use Rattle.packing.proofs.Reflect.{both, three, together, within-means}
 use Rattle.packing.proofs.Sums.{head-stands}
-use Rattle.soundness.proofs.Tests.{equal-holds, within-holds, all-three}
-use Rattle.soundness.proofs.Exact.{
+use Rattle.fitting.proofs.Tests.{equal-holds, within-holds, all-three}
+use Rattle.fitting.proofs.Exact.{
   Exact,
   exact-if,
   exact-then,
@@ -34,7 +34,7 @@ use Rattle.soundness.proofs.Exact.{
   apart-one,
   met-one,
 }
-use Rattle.soundness.specs.Twin.{word, fresh, Walk, flaw, well, and-then, chain-walk, batch-walk}
+use Rattle.fitting.specs.Twin.{word, fresh, Walk, flaw, well, and-then, chain-walk, batch-walk}
 
 -- from p on, the links go over the list, and end behind it
 abbrev pub Linked : (ℕ → ℕ) → ℕ → List ℕ → Type 0

@@ -54,14 +54,14 @@ use Rattle.packing.proofs.Sums.{positive-term}
 use Rattle.packing.proofs.Chains.{queue-of, queue-among, next-follows, heads-among, batch-follows, heads-in-core, queued-once, queued-range}
 use Rattle.packing.proofs.Reading.{state-words, link-words, state-word, progress-word, link-word}
 use Rattle.packing.proofs.ViewCore.{queue-words, work-word, queue-word}
-use Rattle.soundness.proofs.Exact.{Apart}
-use Rattle.soundness.proofs.Walks.{Linked, next-of, batch-of, batch-behind, Batch}
-use Rattle.soundness.proofs.CoreWalks.{standing, load, CoreFits, chain-first, heads-of, heads-are}
-use Rattle.soundness.proofs.Views.{cores-of-view, processes-of-view, channels-of-view, core-of-view, process-of-view, channel-of-view}
-use Rattle.soundness.proofs.FitsCore.{FlatCore, means-core-fits}
-use Rattle.soundness.proofs.FitsProcess.{FlatProcess, NoLinks, meeting-exact}
-use Rattle.soundness.proofs.Fitting.{HeaderFits, header-processes, Fitting}
-use Rattle.soundness.proofs.Links.{
+use Rattle.fitting.proofs.Exact.{Apart}
+use Rattle.fitting.proofs.Walks.{Linked, next-of, batch-of, batch-behind, Batch}
+use Rattle.fitting.proofs.CoreWalks.{standing, load, CoreFits, chain-first, heads-of, heads-are}
+use Rattle.fitting.proofs.Views.{cores-of-view, processes-of-view, channels-of-view, core-of-view, process-of-view, channel-of-view}
+use Rattle.fitting.proofs.FitsCore.{FlatCore, means-core-fits}
+use Rattle.fitting.proofs.FitsProcess.{FlatProcess, NoLinks, meeting-exact}
+use Rattle.fitting.proofs.Fitting.{HeaderFits, header-processes, Fitting}
+use Rattle.fitting.proofs.Links.{
   linked-back,
   last-from-zero,
   head-found,
@@ -74,9 +74,9 @@ use Rattle.soundness.proofs.Links.{
   no-batch-link,
   head-keeps,
 }
-use Rattle.soundness.proofs.FitsValid.{batch-from, heads-below}
-use Rattle.soundness.proofs.Tests.{bit-positive}
-use Rattle.soundness.specs.Twin.{word, meeting-fits}
+use Rattle.fitting.proofs.FitsValid.{batch-from, heads-below}
+use Rattle.fitting.proofs.Tests.{bit-positive}
+use Rattle.fitting.specs.Twin.{word, meeting-fits}
 
 -- words that are those of a list of this length
 words-block : (f : ℕ → ℕ) (a n : ℕ) (l : List ℕ) → length l ≡ n → ((i : ℕ) → i < n → f (a + i) ≡ getD l i 0) → l ≡ tabulate f a n

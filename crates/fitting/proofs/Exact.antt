@@ -10,8 +10,8 @@ use lib.Seq.{getD-set-same, getD-set-other}
 use borrow.Author.Tests.{eqb-true, eqb-false, leb-true, leb-false, eq-eqb, ne-eqb}
 use Rattle.rules.specs.Lists.{if_then_else_, within, bit}
 use Rattle.packing.proofs.Reflect.{both, together, within-means}
-use Rattle.soundness.proofs.Tests.{equal-holds, within-holds}
-use Rattle.soundness.specs.Twin.{fresh, Walk, flaw, well, and-then}
+use Rattle.fitting.proofs.Tests.{equal-holds, within-holds}
+use Rattle.fitting.specs.Twin.{fresh, Walk, flaw, well, and-then}
 
 -- Exact walks
 

@@ -14,13 +14,13 @@ use Rattle.rules.specs.SetUp.{room, sizes}
 use Rattle.rules.specs.Packing.{K-of, N-of, M-of, process-word, view-channel, view}
 use Rattle.rules.specs.Soundness.{valid-channel}
 use Rattle.packing.proofs.Reflect.{both, four, three, together, within-means, all-from}
-use Rattle.soundness.proofs.Tests.{equal-holds, all-four, zeros-mean, zeros-hold, from-holds}
-use Rattle.soundness.proofs.Exact.{Exact, Met, Apart}
-use Rattle.soundness.proofs.CoreWalks.{standing, load, CoreFits, cores-exact}
-use Rattle.soundness.proofs.Views.{processes-of-view}
-use Rattle.soundness.proofs.FitsChannel.{channel-fits-is}
-use Rattle.soundness.proofs.FitsProcess.{FlatProcess, process-exact}
-use Rattle.soundness.specs.Twin.{
+use Rattle.fitting.proofs.Tests.{equal-holds, all-four, zeros-mean, zeros-hold, from-holds}
+use Rattle.fitting.proofs.Exact.{Exact, Met, Apart}
+use Rattle.fitting.proofs.CoreWalks.{standing, load, CoreFits, cores-exact}
+use Rattle.fitting.proofs.Views.{processes-of-view}
+use Rattle.fitting.proofs.FitsChannel.{channel-fits-is}
+use Rattle.fitting.proofs.FitsProcess.{FlatProcess, process-exact}
+use Rattle.fitting.specs.Twin.{
   word,
   zeros,
   header-fits,

@@ -15,9 +15,9 @@ use Rattle.rules.specs.Packing.{place-number, progress-words, K-of, N-of, M-of,
 use Rattle.rules.specs.Soundness.{valid-progress, fits, stands}
 use Rattle.packing.proofs.Reflect.{both, together, within-means}
 use Rattle.packing.proofs.Reading.{state-words}
-use Rattle.soundness.proofs.Tests.{bit-means, bit-holds, zeros-mean, zeros-hold, six, all-six}
-use Rattle.soundness.proofs.FitsProgress.{progress-exact, places-are}
-use Rattle.soundness.specs.Twin.{word, zeros, place-fits, meeting-fits, progress-fits, process-fits}
+use Rattle.fitting.proofs.Tests.{bit-means, bit-holds, zeros-mean, zeros-hold, six, all-six}
+use Rattle.fitting.proofs.FitsProgress.{progress-exact, places-are}
+use Rattle.fitting.specs.Twin.{word, zeros, place-fits, meeting-fits, progress-fits, process-fits}
 
 -- a number that fits is that of a place
 place-known : (place n : ℕ) → T (place-fits place n) → place-number (place-from place) ≡ place

@@ -12,7 +12,7 @@ use Rattle.rules.specs.State.{Core, queues-of}
 use Rattle.rules.specs.Packing.{heads, K-of, N-of, core-at, core-word, chain, work-from, view-core}
 use Rattle.rules.specs.Soundness.{runs-it}
 use Rattle.packing.proofs.Sums.{head-stands}
-use Rattle.soundness.proofs.Exact.{
+use Rattle.fitting.proofs.Exact.{
   Exact,
   exact-if,
   exact-then,
@@ -31,7 +31,7 @@ use Rattle.soundness.proofs.Exact.{
   met-as,
   met-one,
 }
-use Rattle.soundness.proofs.Walks.{
+use Rattle.fitting.proofs.Walks.{
   first-stands,
   Queue,
   next-of,
@@ -45,7 +45,7 @@ use Rattle.soundness.proofs.Walks.{
   MetHeads,
   batch-exact,
 }
-use Rattle.soundness.specs.Twin.{
+use Rattle.fitting.specs.Twin.{
   word,
   core-fits,
   fresh,

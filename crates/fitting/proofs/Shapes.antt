@@ -48,8 +48,8 @@ use Rattle.rules.specs.State.{
 use Rattle.rules.specs.Packing.{place-number, request-words, progress-words, progress-from}
 use Rattle.rules.specs.Soundness.{is-process, own-end, own-guards, in-list, ready-in-list, valid-progress, fits}
 use Rattle.packing.proofs.Reflect.{within-means}
-use Rattle.soundness.proofs.Tests.{and-true}
-use Rattle.soundness.specs.Twin.{is-sender, is-receiver, has-partner, has-guards, has-index, has-ready, place-fits}
+use Rattle.fitting.proofs.Tests.{and-true}
+use Rattle.fitting.specs.Twin.{is-sender, is-receiver, has-partner, has-guards, has-index, has-ready, place-fits}
 
 -- a stage fits running, queued and sleeping processes
 fits-doing : (n : ℕ) → 1 ≤ n → n ≤ 19 → (x : Stage) (y : Place) → fits y (doing x) ≡ place-fits (place-number y) n

@@ -10,8 +10,8 @@ use Rattle.rules.specs.State.{Wiring}
 use Rattle.rules.specs.Packing.{work-words, core-at, core-word, work-from}
 use Rattle.rules.specs.Soundness.{is-process, valid-work}
 use Rattle.packing.proofs.Reflect.{both, three, four}
-use Rattle.soundness.proofs.Tests.{equal-holds, within-holds, all-three, all-four, zeros-mean, zeros-hold, bit-means, bit-holds}
-use Rattle.soundness.specs.Twin.{word, zeros, task-fits, core-fits}
+use Rattle.fitting.proofs.Tests.{equal-holds, within-holds, all-three, all-four, zeros-mean, zeros-hold, bit-means, bit-holds}
+use Rattle.fitting.specs.Twin.{word, zeros, task-fits, core-fits}
 
 -- the running process, the task and its process fit
 abbrev work-fits : ℕ → ℕ → ℕ → ℕ → Bool

@@ -1,0 +1,1 @@
+// The soundness check as a pure function (specs/), and that it is exact (proofs/). No function stands here.
