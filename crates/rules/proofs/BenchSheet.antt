@@ -20,6 +20,7 @@ use Rattle.rules.specs.Packing.{
 use Rattle.rules.specs.Soundness.{on-cores, in-queues, valid-process, valid-core, valid-channel, valid, sound}
 use Rattle.rules.specs.Calls.{call, set-up-call}
 use Rattle.rules.specs.BenchSheet.{BenchSheet}
+use Rattle.rules.specs.Shortcuts.{BothGuards}
 
 pub bench-sheet : BenchSheet
 unfolding flatMap core-words progress-words next-link head-link batch-link process-words channel-words header-words pack progress-from view-core view-process view-channel view on-cores in-queues valid-process valid-core valid-channel valid sound call set-up-call
@@ -37,3 +38,8 @@ bench-sheet =
       case-11 = (refl, refl);
       case-13 = (refl, refl, refl);
     }
+
+-- both guards of a choice are enabled and disabled, though the first is ready
+pub both-guards : BothGuards
+unfolding flatMap core-words progress-words next-link head-link batch-link process-words channel-words header-words pack progress-from view-core view-process view-channel view on-cores in-queues valid-process valid-core valid-channel valid sound call set-up-call
+both-guards = refl

@@ -13,4 +13,5 @@ pub mod Soundness
 pub mod Calls
 pub mod Touched
 pub mod BenchSheet
+pub mod Shortcuts
 pub mod Claims
