@@ -1,0 +1,92 @@
+-- The changes of queues on a packing, with what the rules change beside them.
+use Prim.Native.Nat.{ℕ, _≤_, _<_}
+use mathlib.Core.Path.{_≡_, refl, ap, _∙_}
+use mathlib.Core.Bool.{Bool, true, false}
+use mathlib.Core.List.{List, [], _∷_, _++_}
+use lib.ListN.{length, set, length-set}
+use Rattle.rules.specs.Lists.{bit}
+use Rattle.rules.specs.State.{running, queued, no-task, runs, free, Core, State}
+use Rattle.rules.specs.Items.{core-of, put, core, place}
+use Rattle.rules.specs.Packing.{core-at, process-at, pack}
+use Rattle.rules.specs.Steps.{with-active}
+use Rattle.rules.specs.Scheduler.{stored}
+use Rattle.packing.specs.Queues.{push-table, take-table, store-table, split-table, load-table, with-queues, Queued}
+use Rattle.packing.proofs.Focus.{writes}
+use Rattle.packing.proofs.ReadLaws.{core-list}
+use Rattle.packing.proofs.WriteLaws.{put-place, put-core-again}
+use Rattle.packing.proofs.Links.{Stands}
+use Rattle.packing.proofs.Standing.{first-stands}
+use Rattle.packing.proofs.Queued.{queued-put}
+use Rattle.packing.proofs.Push.{push-law}
+use Rattle.packing.proofs.Take.{take-law}
+use Rattle.packing.proofs.Store.{store-law}
+use Rattle.packing.proofs.Split.{split-law}
+use Rattle.packing.proofs.Load.{load-law}
+
+-- The core c after the rules' steps: the process p is taken, the active queue is stored, a batch is loaded.
+abbrev pub takes : ℕ → ℕ → List ℕ → Core → Core
+takes p n rest c = record { work = runs p; active = rest; dispatch = n; mark = c .mark; run-queue = c .run-queue }
+
+abbrev pub stores : ℕ → List ℕ → Core → Core
+stores p rest c = with-queues [] (c .run-queue ++ stored (c .mark) p rest) c
+
+abbrev pub loads : ℕ → Bool → List ℕ → List (List ℕ) → Core → Core
+loads n m batch rest c = record { work = c .work; active = batch; dispatch = n; mark = m; run-queue = rest }
+
+module _ (s : State) (k : ℕ) (inside : k < length (s .cores)) (order : Queued s) where
+  -- process q is queued and goes to the end of the active queue: `joins` of the rules
+  pub join-law : (q : ℕ) → 1 ≤ q → q ≤ length (s .processes)
+      → push-table (set (pack s) (process-at (length (s .cores)) q 0) 2) (length (s .cores)) k q
+      ≡ pack (put core k (with-active (core-of s k .active ++ (q ∷ [])) (core-of s k)) (put place q queued s))
+  join-law q low high =
+      ap (λ t. push-table t (length (s .cores)) k q) (put-place s q low high queued)
+      ∙ push-law (put place q queued s) k q inside (queued-put place q queued s tt order)
+
+  -- the first process p, taken off the active queue of a core that runs nothing, runs there, and the dispatch count is n: `take-step`
+  pub take-step-law : (p n : ℕ) (rest : List ℕ) → core-of s k .active ≡ p ∷ rest → core-of s k .work ≡ free no-task
+      → set (set (set (take-table (pack s) (length (s .cores)) k) (core-at k 0) p) (core-at k 6) n) (process-at (length (s .cores)) p 0) 1
+      ≡ pack (put place p running (put core k (takes p n rest (core-of s k)) s))
+  take-step-law p n rest e idle =
+      ap (λ t. set (set (set t (core-at k 0) p) (core-at k 6) n) (process-at (length (s .cores)) p 0) 1) (take-law s k p rest inside order e)
+      ∙ ap (λ t. set t (process-at (length (s .cores)) p 0) 1)
+        (put-core-again s k (with-queues rest (core-of s k .run-queue) (core-of s k)) (takes p n rest (core-of s k)) (λ f. f)
+        ((0, p) ∷ (6, n) ∷ []) inside tt refl refl turned)
+      ∙ rw (length-set (s .cores) k (takes p n rest (core-of s k)))
+        at (put-place (put core k (takes p n rest (core-of s k)) s) p (stands .low) (stands .high) running)
+    where
+      stands : Stands s k p
+      stands = first-stands s k inside order p rest e
+
+      turned : writes ((0, p) ∷ (6, n) ∷ []) (λ f. f) (core-list (with-queues rest (core-of s k .run-queue) (core-of s k)))
+          ≡ core-list (takes p n rest (core-of s k))
+      turned = rw idle
+
+  -- the active queue becomes batches that are found to be those of the rule
+  same-batches : (p : ℕ) (rest : List ℕ) {new : List (List ℕ)} → new ≡ stored (core-of s k .mark) p rest
+      → pack (put core k (with-queues [] (core-of s k .run-queue ++ new) (core-of s k)) s) ≡ pack (put core k (stores p rest (core-of s k)) s)
+  same-batches p rest e = ap (λ l. pack (put core k (with-queues [] (core-of s k .run-queue ++ l) (core-of s k)) s)) e
+
+  -- the active queue becomes one batch, if the mark is set or one process stands there alone, otherwise two: `store-step`
+  pub store-marked-law : (p : ℕ) (rest : List ℕ) → core-of s k .active ≡ p ∷ rest → core-of s k .mark ≡ true
+      → store-table (pack s) (length (s .cores)) k ≡ pack (put core k (stores p rest (core-of s k)) s)
+  store-marked-law p rest e marked = store-law s k p rest inside order e ∙ same-batches p rest (whole rest)
+    where
+      whole : (rest : List ℕ) → (p ∷ rest) ∷ [] ≡ stored (core-of s k .mark) p rest
+      whole [] = refl
+      whole (q ∷ rest) = rw marked
+
+  pub store-single-law : (p : ℕ) → core-of s k .active ≡ p ∷ []
+      → store-table (pack s) (length (s .cores)) k ≡ pack (put core k (stores p [] (core-of s k)) s)
+  store-single-law p e = store-law s k p [] inside order e
+
+  pub split-step-law : (p q : ℕ) (rest : List ℕ) → core-of s k .active ≡ p ∷ (q ∷ rest) → core-of s k .mark ≡ false
+      → split-table (pack s) (length (s .cores)) k ≡ pack (put core k (stores p (q ∷ rest) (core-of s k)) s)
+  split-step-law p q rest e unmarked = split-law s k p q rest inside order e ∙ same-batches p (q ∷ rest) (rw unmarked)
+
+  -- the first batch becomes the active queue, which was empty, with a dispatch count n and a mark m: `load-step`
+  pub load-step-law : (n : ℕ) (m : Bool) (batch : List ℕ) (rest : List (List ℕ)) → core-of s k .active ≡ [] → core-of s k .run-queue ≡ batch ∷ rest
+      → set (set (load-table (pack s) (length (s .cores)) k) (core-at k 6) n) (core-at k 7) (bit m)
+      ≡ pack (put core k (loads n m batch rest (core-of s k)) s)
+  load-step-law n m batch rest e e′ =
+      ap (λ t. set (set t (core-at k 6) n) (core-at k 7) (bit m)) (load-law s k batch rest inside order e e′)
+      ∙ put-core-again s k (with-queues batch rest (core-of s k)) _ (λ f. f) ((6, n) ∷ (7, bit m) ∷ []) inside tt refl refl refl

@@ -1,0 +1,55 @@
+-- What each change of a queue needs of the table, so that every word it reads and writes is there and no size wraps.
+use Prim.Native.Nat.{ℕ, _≤_, _<_}
+use mathlib.Core.Path.{_≡_}
+use mathlib.Core.List.{List}
+use lib.ListN.{length}
+use Rattle.rules.specs.Packing.{word-at, core-at, process-at}
+use Rattle.table.specs.Has.{HasCore, HasProcess}
+
+-- to link behind the last one b, if there is one, by its word g, otherwise by the word f of core k
+pub record CanLink (t : List ℕ) (cores k f g b : ℕ) : Type 0 where
+  pub first : core-at k f < length t
+  pub last : 1 ≤ b → process-at cores b g < length t
+
+-- to put a process at the end of core k's active queue
+pub record CanPush (t : List ℕ) (cores k : ℕ) : Type 0 where
+  pub core : HasCore t k
+  pub last : 1 ≤ word-at t (core-at k 4) → HasProcess t cores (word-at t (core-at k 4))
+  pub size : word-at t (core-at k 5) < 4294967295
+
+-- to make process q queued and put it there
+pub record CanJoin (t : List ℕ) (cores k q : ℕ) : Type 0 where
+  pub inside : k < cores
+  pub pushes : CanPush t cores k
+  pub process : HasProcess t cores q
+
+-- to take the first process p off the active queue
+pub record CanTake (t : List ℕ) (cores k p : ℕ) : Type 0 where
+  pub core : HasCore t k
+  pub first : p ≡ word-at t (core-at k 3)
+  pub process : HasProcess t cores p
+  pub size : 1 ≤ word-at t (core-at k 5)
+
+-- to put a batch behind the last one, whose head is b
+pub record CanStoreHeads (t : List ℕ) (cores k b : ℕ) : Type 0 where
+  pub core : HasCore t k
+  pub last : 1 ≤ b → HasProcess t cores b
+
+-- to make the active queue, with the first process p, a batch
+pub record CanStore (t : List ℕ) (cores k p : ℕ) : Type 0 where
+  pub core : HasCore t k
+  pub first : p ≡ word-at t (core-at k 3)
+  pub process : HasProcess t cores p
+  pub last-head : 1 ≤ word-at t (core-at k 9) → HasProcess t cores (word-at t (core-at k 9))
+
+-- to make it two batches
+pub record CanSplit (t : List ℕ) (cores k p : ℕ) : Type 0 where
+  pub whole : CanStore t cores k p
+  pub second : HasProcess t cores (word-at t (process-at cores p 20))
+  pub size : 1 ≤ word-at t (core-at k 5)
+
+-- to make the first batch, with the head p, the active queue
+pub record CanLoad (t : List ℕ) (cores k p : ℕ) : Type 0 where
+  pub core : HasCore t k
+  pub head : p ≡ word-at t (core-at k 8)
+  pub process : HasProcess t cores p

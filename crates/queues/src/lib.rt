@@ -1,0 +1,157 @@
+// The queues of core k as chains in the table (docs/PACKING.md, "Queues"): a few words are written, whatever a queue's length.
+ghost use mathlib.Core.Path.{_≡_};
+ghost use Prim.Native.Nat.{ℕ, _+_, _*_, _-_, _≤_, _<_};
+ghost use lib.ListN.{length, getD, set};
+ghost use lib.Dec.{eqb};
+ghost use Rattle.rules.specs.Lists.{if_then_else_};
+ghost use Rattle.rules.specs.Packing.{word-at, core-at, process-at};
+ghost use Rattle.packing.specs.Queues.{link-end, push-table, take-table, store-heads, store-table, split-table, load-table};
+ghost use Rattle.table.specs.Has.{HasCore, HasProcess};
+ghost use Rattle.queues.specs.Parts.{active-table, batch-table, alone-table, no-batch-table};
+ghost use Rattle.queues.specs.Fits.{CanLink, CanPush, CanJoin, CanTake, CanStoreHeads, CanStore, CanSplit, CanLoad};
+
+// Process p is linked behind the last one b by the word g of b; where there is none it is the first, the word f of core k.
+fn link_end(t: &mut [u32], cores: usize, k: usize, f: usize, g: usize, b: u32, p: u32)
+    requires { ⌜ CanLink (now t) cores k f g b ⌝ }
+    ensures { λ r. ⌜ now (t .exit) ≡ link-end f g b p (now (t .entry)) cores k ⌝ }
+{
+    if b == 0 {
+        table::set_core_word(t, k, f, p);
+        return;
+    }
+    table::set_process_word(t, cores, b, g, p);
+}
+
+// q goes to the end of the active queue.
+pub fn push(t: &mut [u32], cores: usize, k: usize, q: u32)
+    requires { ⌜ CanPush (now t) cores k ⌝ }
+    ensures { λ r. ⌜ now (t .exit) ≡ push-table (now (t .entry)) cores k q ⌝ }
+{
+    let last = table::core_word(t, k, 4);
+    let size = table::core_word(t, k, 5);
+    link_end(t, cores, k, 3, 20, last, q);
+    t[8 + 16 * k + 4] = q;
+    t[8 + 16 * k + 5] = size + 1;
+}
+
+// Process q is queued, at the end of the active queue.
+pub fn join(t: &mut [u32], cores: usize, processes: usize, k: usize, q: u32)
+    requires { ⌜ CanJoin (now t) cores k q ⌝ }
+    ensures { λ r. ⌜ now (t .exit) ≡ push-table (set (now (t .entry)) (process-at cores q 0) 2) cores k q ⌝ }
+{
+    table::set_process_word(t, cores, q, 0, 2);
+    push(t, cores, k, q);
+}
+
+// The last of a queue from which the first is gone: nobody if nobody is next.
+fn last_after(next: u32, last: u32) -> u32
+    ensures { λ r. ⌜ r ≡ (if eqb next 0 then 0 else last) ⌝ }
+{
+    if next == 0 { 0 } else { last }
+}
+
+// The active queue has another first, last and size.
+fn set_active(t: &mut [u32], k: usize, first: u32, last: u32, size: u32)
+    requires { ⌜ HasCore (now t) k ⌝ }
+    ensures { λ r. ⌜ now (t .exit) ≡ active-table (now (t .entry)) k first last size ⌝ }
+{
+    t[8 + 16 * k + 3] = first;
+    t[8 + 16 * k + 4] = last;
+    t[8 + 16 * k + 5] = size;
+}
+
+// The first process p leaves the active queue.
+pub fn take_first(t: &mut [u32], cores: usize, k: usize, p: u32)
+    requires { ⌜ CanTake (now t) cores k p ⌝ }
+    ensures { λ r. ⌜ now (t .exit) ≡ take-table (now (t .entry)) cores k ⌝ }
+{
+    let next = table::process_word(t, cores, p, 20);
+    let last = last_after(next, table::core_word(t, k, 4));
+    let size = table::core_word(t, k, 5);
+    set_active(t, k, next, last, size - 1);
+    table::set_process_word(t, cores, p, 20, 0);
+}
+
+// A batch with the head p stands behind the last one, whose head is b; the last head is h then, and the active queue is empty.
+fn store_heads(t: &mut [u32], cores: usize, k: usize, p: u32, h: u32, b: u32)
+    requires { ⌜ CanStoreHeads (now t) cores k b ⌝ }
+    ensures { λ r. ⌜ now (t .exit) ≡ store-heads p h b (now (t .entry)) cores k ⌝ }
+{
+    link_end(t, cores, k, 8, 23, b, p);
+    table::set_core_word(t, k, 9, h);
+    set_active(t, k, 0, 0, 0);
+}
+
+// The head p of a batch keeps the batch's last process and its size.
+fn keep_batch(t: &mut [u32], cores: usize, p: u32, last: u32, size: u32)
+    requires { ⌜ HasProcess (now t) cores p ⌝ }
+    ensures { λ r. ⌜ now (t .exit) ≡ batch-table (now (t .entry)) cores p last size ⌝ }
+{
+    let i = p as usize;
+    t[8 + 16 * cores + 24 * (i - 1) + 21] = last;
+    t[8 + 16 * cores + 24 * (i - 1) + 22] = size;
+}
+
+// The active queue, with the first process p, becomes the last batch.
+pub fn store_whole(t: &mut [u32], cores: usize, k: usize, p: u32)
+    requires { ⌜ CanStore (now t) cores k p ⌝ }
+    ensures { λ r. ⌜ now (t .exit) ≡ store-table (now (t .entry)) cores k ⌝ }
+{
+    let last = table::core_word(t, k, 4);
+    let size = table::core_word(t, k, 5);
+    let b = table::core_word(t, k, 9);
+    keep_batch(t, cores, p, last, size);
+    store_heads(t, cores, k, p, p, b);
+}
+
+// Process p is a batch of its own, which the batch with the head q follows.
+fn set_alone(t: &mut [u32], cores: usize, p: u32, q: u32)
+    requires { ⌜ HasProcess (now t) cores p ⌝ }
+    ensures { λ r. ⌜ now (t .exit) ≡ alone-table (now (t .entry)) cores p q ⌝ }
+{
+    let i = p as usize;
+    t[8 + 16 * cores + 24 * (i - 1) + 20] = 0;
+    t[8 + 16 * cores + 24 * (i - 1) + 21] = p;
+    t[8 + 16 * cores + 24 * (i - 1) + 22] = 1;
+    t[8 + 16 * cores + 24 * (i - 1) + 23] = q;
+}
+
+// The active queue becomes the two last batches: its first process p alone, then the others.
+pub fn split(t: &mut [u32], cores: usize, k: usize, p: u32)
+    requires { ⌜ CanSplit (now t) cores k p ⌝ }
+    ensures { λ r. ⌜ now (t .exit) ≡ split-table (now (t .entry)) cores k ⌝ }
+{
+    let q = table::process_word(t, cores, p, 20);
+    let last = table::core_word(t, k, 4);
+    let size = table::core_word(t, k, 5);
+    let b = table::core_word(t, k, 9);
+    set_alone(t, cores, p, q);
+    keep_batch(t, cores, q, last, size - 1);
+    store_heads(t, cores, k, p, q, b);
+}
+
+// Process p is the head of no batch.
+fn keep_nothing(t: &mut [u32], cores: usize, p: u32)
+    requires { ⌜ HasProcess (now t) cores p ⌝ }
+    ensures { λ r. ⌜ now (t .exit) ≡ no-batch-table (now (t .entry)) cores p ⌝ }
+{
+    let i = p as usize;
+    t[8 + 16 * cores + 24 * (i - 1) + 21] = 0;
+    t[8 + 16 * cores + 24 * (i - 1) + 22] = 0;
+    t[8 + 16 * cores + 24 * (i - 1) + 23] = 0;
+}
+
+// The first batch, with the head p, becomes the active queue.
+pub fn load_first(t: &mut [u32], cores: usize, k: usize, p: u32)
+    requires { ⌜ CanLoad (now t) cores k p ⌝ }
+    ensures { λ r. ⌜ now (t .exit) ≡ load-table (now (t .entry)) cores k ⌝ }
+{
+    let last = table::process_word(t, cores, p, 21);
+    let size = table::process_word(t, cores, p, 22);
+    let next = table::process_word(t, cores, p, 23);
+    let last_head = last_after(next, table::core_word(t, k, 9));
+    set_active(t, k, p, last, size);
+    table::set_core_word(t, k, 8, next);
+    table::set_core_word(t, k, 9, last_head);
+    keep_nothing(t, cores, p);
+}
