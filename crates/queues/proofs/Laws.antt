@@ -49,10 +49,10 @@ module _ (s : State) (k : ℕ) (inside : k < length (s .cores)) (order : Queued 
   take-step-law p n rest e idle =
       ap (λ t. set (set (set t (core-at k 0) p) (core-at k 6) n) (process-at (length (s .cores)) p 0) 1) (take-law s k p rest inside order e)
       ∙ ap (λ t. set t (process-at (length (s .cores)) p 0) 1)
-        (put-core-again s k (with-queues rest (core-of s k .run-queue) (core-of s k)) (takes p n rest (core-of s k)) (λ f. f)
-        ((0, p) ∷ (6, n) ∷ []) inside tt refl refl turned)
+      (put-core-again s k (with-queues rest (core-of s k .run-queue) (core-of s k)) (takes p n rest (core-of s k)) (λ f. f)
+      ((0, p) ∷ (6, n) ∷ []) inside tt refl refl turned)
       ∙ rw (length-set (s .cores) k (takes p n rest (core-of s k)))
-        at (put-place (put core k (takes p n rest (core-of s k)) s) p (stands .low) (stands .high) running)
+      at (put-place (put core k (takes p n rest (core-of s k)) s) p (stands .low) (stands .high) running)
     where
       stands : Stands s k p
       stands = first-stands s k inside order p rest e

@@ -1,4 +1,6 @@
 pub mod Seen
-pub mod Free
+pub mod Idle
+pub mod Known
 pub mod Take
 pub mod Store
+pub mod Load

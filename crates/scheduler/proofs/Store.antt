@@ -1,62 +1,107 @@
--- Store, whole or split, and load.
-use Prim.Native.Nat.{ℕ, zero, suc, _+_, _*_, _≤_, _<_, min}
-use mathlib.Core.Path.{_≡_, refl, sym, ap, _∙_, subst}
+-- Store, whole or split, and load: what their writes come to.
+use Prim.Native.Nat.{ℕ, zero, suc, _*_, _≤_, _<_, min}
+use mathlib.Core.Path.{_≡_, refl, sym, ap, _∙_, subst, subst₂}
 use mathlib.Core.Bool.{Bool, true, false}
-use mathlib.Core.List.{List, [], _∷_, _++_}
+use mathlib.Core.List.{List, [], _∷_}
 use mathlib.Core.Logic.{_⊎_, inl, inr}
 use native.Mathlib.Omega.{arith}
-use lib.Dec.{eqb}
-use lib.ListN.{length, set}
-use Rattle.rules.specs.Lists.{bit}
+use lib.Dec.{lit<, eqb}
+use lib.ListN.{length}
+use Rattle.rules.specs.Lists.{bit, first}
 use Rattle.rules.specs.Numbers.{MOVED, yes-with}
-use Rattle.rules.specs.State.{free, no-task, Core, State}
 use Rattle.rules.specs.Items.{core-of, core, put}
 use Rattle.rules.specs.Rule.{run}
-use Rattle.rules.specs.Scheduler.{stored, step}
-use Rattle.rules.specs.Packing.{pack, core-at}
-use Rattle.packing.specs.Queues.{store-table, split-table, load-table, with-queues, Queued}
-use Rattle.packing.proofs.WriteLaws.{put-core-again}
-use Rattle.packing.proofs.Store.{store-law}
-use Rattle.packing.proofs.Split.{split-law}
-use Rattle.packing.proofs.Load.{load-law}
+use Rattle.rules.specs.Scheduler.{step}
+use Rattle.rules.specs.Packing.{pack, view, heads, word-at, core-at}
+use Rattle.packing.specs.Queues.{store-table, split-table}
 use Rattle.answers.specs.Four.{four}
-use Rattle.parts.specs.Does.{Comes}
-use Rattle.scheduler.proofs.Free.{stores, loads}
+use Rattle.answers.specs.declared.Reply.{Reply}
+use Rattle.parts.specs.Does.{Comes, Does}
+use Rattle.parts.proofs.Packs.{Packs}
+use Rattle.queues.specs.Fits.{CanStore, CanSplit, CanLoad}
+use Rattle.queues.proofs.Fits.{can-store, can-split, can-load}
+use Rattle.queues.proofs.Laws.{stores, store-marked-law, store-single-law, split-step-law, load-step-law}
+use Rattle.scheduler.specs.Free.{Free, Stores, Loads, loaded-table}
+use Rattle.scheduler.proofs.Idle as idle
+use Rattle.scheduler.proofs.Known.{free-packs, free-inside, free-order, free-read, begins}
 
--- with the mark set, or one process only, the queue is one batch
-stored-whole : (mark : Bool) (p : ℕ) (rest : List ℕ) → (bit mark ≡ 1) ⊎ (length (p ∷ rest) ≡ 1) → stored mark p rest ≡ (p ∷ rest) ∷ []
-stored-whole mark p [] one = refl
-stored-whole true p (q ∷ rest) one = refl
-stored-whole false p (q ∷ rest) (inl h) = absurd (omega arith)
-stored-whole false p (q ∷ rest) (inr h) = absurd (omega arith)
+-- a bit that is set, and one that isn't
+set-bit : (b : Bool) → bit b ≡ 1 → b ≡ true
+set-bit true e = refl
+set-bit false e = absurd (omega arith)
 
-module _ (s : State) (k : ℕ) (t : List ℕ) (inside : k < length (s .cores)) (queued : Queued s) (free-of : core-of s k .work ≡ free no-task) where
-  pub store-comes : (p : ℕ) (rest : List ℕ) → core-of s k .dispatch ≡ 0 → core-of s k .active ≡ p ∷ rest
-      → (bit (core-of s k .mark) ≡ 1) ⊎ (length (p ∷ rest) ≡ 1)
-      → Comes (run (step k) s) t (four (yes-with MOVED)) (store-table (pack s) (length (s .cores)) k)
-  store-comes p rest none e one =
-      rw (stores s k free-of p rest none e)
-      (refl, store-law s k p rest inside queued e
-      ∙ ap (λ (b : List (List ℕ)). pack (put core k (with-queues [] (core-of s k .run-queue ++ b) (core-of s k)) s))
-          (sym (stored-whole (core-of s k .mark) p rest one)))
+clear-bit : (b : Bool) → (bit b ≡ 1 → ⊥) → b ≡ false
+clear-bit true h = absurd (h refl)
+clear-bit false h = refl
 
-  pub split-comes : (p q : ℕ) (rest : List ℕ) → core-of s k .dispatch ≡ 0 → core-of s k .active ≡ p ∷ (q ∷ rest) → core-of s k .mark ≡ false
-      → Comes (run (step k) s) t (four (yes-with MOVED)) (split-table (pack s) (length (s .cores)) k)
-  split-comes p q rest none e unmarked =
-      rw (stores s k free-of p (q ∷ rest) none e)
-      (refl, split-law s k p q rest inside queued e
-      ∙ ap (λ (m : Bool). pack (put core k (with-queues [] (core-of s k .run-queue ++ stored m p (q ∷ rest)) (core-of s k)) s)) (sym unmarked))
+-- a queue of one, and one of more
+alone : (l : List ℕ) (p : ℕ) (rest : List ℕ) → l ≡ p ∷ rest → length l ≡ 1 → l ≡ p ∷ []
+alone l p [] e h = e
+alone l p (q ∷ rest) e h = absurd (omega (arith, ap length e))
 
-  pub load-comes : (batch : List ℕ) (rest : List (List ℕ)) → core-of s k .active ≡ [] → core-of s k .run-queue ≡ batch ∷ rest
-      → Comes (run (step k) s) t (four (yes-with MOVED))
-          (set (set (load-table (pack s) (length (s .cores)) k) (core-at k 6) (min 32 (4 * length batch))) (core-at k 7) (bit (eqb (length batch) 1)))
-  load-comes batch rest a b =
-      rw (loads s k free-of batch rest a b)
-      (refl, ap (λ (t : List ℕ). set (set t (core-at k 6) (min 32 (4 * length batch))) (core-at k 7) (bit (eqb (length batch) 1)))
-          (load-law s k batch rest inside queued a b)
-      ∙ put-core-again s k (with-queues batch rest (core-of s k)) loaded (λ f. f)
-          ((6, min 32 (4 * length batch)) ∷ (7, bit (eqb (length batch) 1)) ∷ []) inside tt refl refl refl)
-    where
-      loaded : Core
-      loaded =
-          record { work = core-of s k .work; active = batch; dispatch = min 32 (4 * length batch); mark = eqb (length batch) 1; run-queue = rest }
+more : (l : List ℕ) (p : ℕ) (rest : List ℕ) → l ≡ p ∷ rest → (length l ≡ 1 → ⊥) → (q : ℕ) × (tail : List ℕ) × (l ≡ p ∷ (q ∷ tail))
+more l p [] e h = absurd (h (ap length e))
+more l p (q ∷ tail) e h = (q, tail, e)
+
+module _ {t : List ℕ} {cores processes k : ℕ} (pre : Stores t cores processes k) where
+  -- the active queue begins with the process that is read
+  queue : (rest : List ℕ) × (core-of (view t) k .active ≡ word-at t (core-at k 3) ∷ rest)
+  queue = begins (core-of (view t) k .active) (word-at t (core-at k 3)) (free-read (pre .free) 3 (lit< tt)) (pre .head)
+
+  none : core-of (view t) k .dispatch ≡ 0
+  none = sym (free-read (pre .free) 6 (lit< tt)) ∙ pre .count
+
+  pub can-store-head : CanStore t cores k (word-at t (core-at k 3))
+  can-store-head =
+      let packs = free-packs (pre .free) in
+      subst₂ (λ (u : List ℕ) (n : ℕ). CanStore u n k (word-at t (core-at k 3))) (sym (packs .is-pack)) (sym (packs .all-cores))
+      (can-store (view t) k (free-inside (pre .free)) (free-order (pre .free)) _ (queue .0) (queue .1))
+
+  pub can-store-first : {p : ℕ} → p ≡ word-at t (core-at k 3) → CanStore t cores k p
+  can-store-first e = subst (CanStore t cores k) (sym e) can-store-head
+
+  -- the rule stores the queue that begins with p
+  comes : (p : ℕ) (rest : List ℕ) → core-of (view t) k .active ≡ p ∷ rest → {r : Reply} (u : List ℕ) → r ≡ four (yes-with MOVED)
+      → u ≡ pack (put core k (stores p rest (core-of (view t) k)) (view t)) → Does (step k) t r u
+  comes p rest e {r} u reply wrote = subst (λ x. Comes x t r u) (sym (idle.stores (view t) k (pre .free .work) p rest none e)) (reply, wrote)
+
+  -- a table that is written as the packing would be
+  as-packed : (f : List ℕ → ℕ → List ℕ) {v : List ℕ} → f (pack (view t)) (length (view t .cores)) ≡ v → f t cores ≡ v
+  as-packed f {v} e =
+      let packs = free-packs (pre .free) in
+      subst₂ (λ (u : List ℕ) (n : ℕ). f u n ≡ v) (sym (packs .is-pack)) (sym (packs .all-cores)) e
+
+  -- with the mark set, or one process only
+  pub store-does : {mark size : ℕ} {r : Reply} {u : List ℕ} → mark ≡ word-at t (core-at k 7) → size ≡ word-at t (core-at k 5)
+      → (mark ≡ 1) ⊎ (size ≡ 1) → r ≡ four (yes-with MOVED) → u ≡ store-table t cores k → Does (step k) t r u
+  store-does {u = u} mark-is size-is (inl marked) reply wrote =
+      let true-mark = set-bit (core-of (view t) k .mark) (sym (free-read (pre .free) 7 (lit< tt)) ∙ sym mark-is ∙ marked) in
+      comes _ (queue .0) (queue .1) u reply
+      (wrote ∙ as-packed (λ t n. store-table t n k)
+      (store-marked-law (view t) k (free-inside (pre .free)) (free-order (pre .free)) _ (queue .0) (queue .1) true-mark))
+  store-does {u = u} mark-is size-is (inr single) reply wrote =
+      let one = alone (core-of (view t) k .active) _ (queue .0) (queue .1) (sym (free-read (pre .free) 5 (lit< tt)) ∙ sym size-is ∙ single) in
+      comes _ [] one u reply
+      (wrote ∙ as-packed (λ t n. store-table t n k) (store-single-law (view t) k (free-inside (pre .free)) (free-order (pre .free)) _ one))
+
+  -- otherwise
+  module _ {mark size : ℕ} (mark-is : mark ≡ word-at t (core-at k 7)) (size-is : size ≡ word-at t (core-at k 5))
+      (unmarked : mark ≡ 1 → ⊥) (several : size ≡ 1 → ⊥) where
+    two : (q : ℕ) × (tail : List ℕ) × (core-of (view t) k .active ≡ word-at t (core-at k 3) ∷ (q ∷ tail))
+    two = more _ _ (queue .0) (queue .1) (λ e. several (size-is ∙ free-read (pre .free) 5 (lit< tt) ∙ e))
+
+    pub can-split-head : CanSplit t cores k (word-at t (core-at k 3))
+    can-split-head =
+        let packs = free-packs (pre .free) in
+        subst₂ (λ (u : List ℕ) (n : ℕ). CanSplit u n k (word-at t (core-at k 3))) (sym (packs .is-pack)) (sym (packs .all-cores))
+        (can-split (view t) k (free-inside (pre .free)) (free-order (pre .free)) _ (two .0) (two .1) (two .2))
+
+    pub can-split-first : {p : ℕ} → p ≡ word-at t (core-at k 3) → CanSplit t cores k p
+    can-split-first e = subst (CanSplit t cores k) (sym e) can-split-head
+
+    pub split-does : {r : Reply} {u : List ℕ} → r ≡ four (yes-with MOVED) → u ≡ split-table t cores k → Does (step k) t r u
+    split-does {u = u} reply wrote =
+        let no-mark = clear-bit (core-of (view t) k .mark) (λ e. unmarked (mark-is ∙ free-read (pre .free) 7 (lit< tt) ∙ e)) in
+        comes _ (two .0 ∷ two .1) (two .2) u reply
+        (wrote ∙ as-packed (λ t n. split-table t n k)
+        (split-step-law (view t) k (free-inside (pre .free)) (free-order (pre .free)) _ (two .0) (two .1) (two .2) no-mark))

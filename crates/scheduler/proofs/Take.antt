@@ -1,53 +1,38 @@
 -- Take: the head of the active queue runs, and answers its outcome or MOVED.
-use Prim.Native.Nat.{ℕ, zero, suc, _+_, _≤_, _<_}
-use mathlib.Core.Path.{_≡_, refl, sym, ap, _∙_, subst}
+use Prim.Native.Nat.{ℕ, zero, suc, _+_, _-_, _≤_, _<_}
+use mathlib.Core.Path.{_≡_, refl, sym, ap, _∙_, subst, subst₂}
 use mathlib.Core.List.{List, [], _∷_}
 use native.Mathlib.Omega.{arith}
-use lib.Dec.{T, lit≤}
+use lib.Dec.{T, lit≤, lit<}
 use lib.ListN.{length, getD, set, length-set}
 use Rattle.rules.specs.Numbers.{MOVED, GOT, yes-with}
 use Rattle.rules.specs.State.{
   running, sending, receiving, Stage, look, park, copy, clear, wake, enable-look, raise, place-name, ready-from-look, ready-from-place, wait, disable,
-  lower, finish, Outcome, go, sent, got, chose, Progress, nothing, doing, due, free, runs, no-task, Core, State
+  lower, finish, Outcome, go, sent, got, chose, Progress, nothing, doing, due, Task, State
 }
-use Rattle.rules.specs.Items.{core-of, core, place, put}
+use Rattle.rules.specs.Items.{core-of, process-of, core, place, put}
 use Rattle.rules.specs.Rule.{run}
-use Rattle.rules.specs.Scheduler.{taken}
-use Rattle.rules.specs.Packing.{pack, core-at, process-at, progress-words}
-use Rattle.packing.specs.Queues.{take-table, with-queues, Queued}
-use Rattle.packing.proofs.ReadLaws.{core-list}
-use Rattle.packing.proofs.Focus.{writes}
-use Rattle.packing.proofs.WriteLaws.{put-core-again, put-place}
-use Rattle.packing.proofs.Take.{take-law}
+use Rattle.rules.specs.Scheduler.{taken, step}
+use Rattle.rules.specs.Packing.{pack, view, word-at, core-at, process-at, progress-words}
+use Rattle.packing.specs.Queues.{Queued}
+use Rattle.packing.proofs.States.{length-set-nth}
+use Rattle.packing.proofs.ReadLaws.{core-list, read-core, read-progress}
+use Rattle.packing.proofs.Queued.{valid-queued}
+use Rattle.packing.proofs.Links.{Stands}
+use Rattle.packing.proofs.Standing.{first-stands}
 use Rattle.answers.specs.Four.{four}
-use Rattle.parts.specs.Does.{Comes}
+use Rattle.answers.specs.declared.Reply.{Reply}
+use Rattle.parts.specs.Does.{Comes, Does}
 use Rattle.parts.specs.Shared.{cleared, reported}
-use Rattle.parts.proofs.Packs.{Packs, data-read, cleared-written}
-
--- the core after its head p was taken
-abbrev pub taken-core : ℕ → ℕ → List ℕ → Core → Core
-taken-core p n rest c = record { work = runs p; active = rest; dispatch = n; mark = c .mark; run-queue = c .run-queue }
-
-module _ (s : State) (k p n : ℕ) (rest : List ℕ) (inside : k < length (s .cores)) (queued : Queued s)
-    (free-of : core-of s k .work ≡ free no-task) (e : core-of s k .active ≡ p ∷ rest) (low : 1 ≤ p) (high : p ≤ length (s .processes)) where
-  -- the writes of a take give the packing of the state after it
-  pub take-writes : set (set (set (take-table (pack s) (length (s .cores)) k) (core-at k 0) p) (core-at k 6) n) (process-at (length (s .cores)) p 0) 1
-      ≡ pack (put place p running (put core k (taken-core p n rest (core-of s k)) s))
-  take-writes =
-      ap (λ (t : List ℕ). set (set (set t (core-at k 0) p) (core-at k 6) n) (process-at (length (s .cores)) p 0) 1) (take-law s k p rest inside queued e)
-      ∙ ap (λ (t : List ℕ). set t (process-at (length (s .cores)) p 0) 1)
-        (put-core-again s k old new (λ f. f) ((0, p) ∷ (6, n) ∷ []) inside tt refl refl turned)
-      ∙ ap (λ (m : ℕ). set (pack (put core k new s)) (process-at m p 0) 1) (sym (length-set (s .cores) k new))
-      ∙ put-place (put core k new s) p low high running
-    where
-      old : Core
-      old = with-queues rest (core-of s k .run-queue) (core-of s k)
-
-      new : Core
-      new = taken-core p n rest (core-of s k)
-
-      turned : writes ((0, p) ∷ (6, n) ∷ []) (λ f. f) (core-list old) ≡ core-list new
-      turned = rw free-of
+use Rattle.parts.proofs.Card.{view-valid, cores-are}
+use Rattle.parts.proofs.Packs.{Packs, card-packs, data-read, cleared-written}
+use Rattle.table.specs.Has.{HasProcess}
+use Rattle.queues.specs.Fits.{CanTake}
+use Rattle.queues.proofs.Fits.{can-take}
+use Rattle.queues.proofs.Laws.{takes, take-step-law}
+use Rattle.scheduler.specs.Free.{Free, Takes, taken-table}
+use Rattle.scheduler.proofs.Idle as idle
+use Rattle.scheduler.proofs.Known.{free-packs, free-inside, free-order, free-read, begins}
 
 -- the number of a stage is at most 19
 stage-number : (x : Stage) → getD (progress-words (doing x)) 0 0 ≤ 19
@@ -100,3 +85,111 @@ module _ {u : List ℕ} {cores processes : ℕ} {s : State} (packs : Packs u cor
   answers-outcome low high (due (got c)) h =
       (ap (λ (v : ℕ). four (yes-with (GOT p c v))) (data-read packs p low high), cleared-written packs p low high .is-pack)
   answers-outcome low high (due (chose c)) h = (refl, cleared-written packs p low high .is-pack)
+
+module _ {t : List ℕ} {cores processes k : ℕ} (pre : Takes t cores processes k) where
+  -- the active queue begins with the process that is read
+  queue : (rest : List ℕ) × (core-of (view t) k .active ≡ word-at t (core-at k 3) ∷ rest)
+  queue = begins (core-of (view t) k .active) (word-at t (core-at k 3)) (free-read (pre .free) 3 (lit< tt)) (pre .head)
+
+  stands : Stands (view t) k (word-at t (core-at k 3))
+  stands = first-stands (view t) k (free-inside (pre .free)) (free-order (pre .free)) _ (queue .0) (queue .1)
+
+  pub can-take-head : CanTake t cores k (word-at t (core-at k 3))
+  can-take-head =
+      let packs = free-packs (pre .free) in
+      subst₂ (λ (u : List ℕ) (n : ℕ). CanTake u n k (word-at t (core-at k 3))) (sym (packs .is-pack)) (sym (packs .all-cores))
+      (can-take (view t) k (free-inside (pre .free)) (free-order (pre .free)) _ (queue .0) (queue .1))
+
+  -- the state after the take
+  after : ℕ → State
+  after n =
+      let p = word-at t (core-at k 3) in
+      put place p running (put core k (takes p n (queue .0) (core-of (view t) k)) (view t))
+
+  taken-packs : (n : ℕ) → Packs (taken-table t cores k (word-at t (core-at k 3)) n) cores processes (after n)
+  unfolding after
+  taken-packs n =
+      let packs = free-packs (pre .free) in
+      let p = word-at t (core-at k 3) in
+      record {
+        is-pack =
+            subst₂ (λ (u : List ℕ) (m : ℕ). taken-table u m k p n ≡ pack (after n)) (sym (packs .is-pack)) (sym (packs .all-cores))
+            (take-step-law (view t) k (free-inside (pre .free)) (free-order (pre .free)) p n (queue .0) (queue .1) (pre .free .work));
+        all-cores = packs .all-cores ∙ sym (length-set (view t .cores) k _);
+        all-processes = packs .all-processes ∙ sym (length-set-nth (view t .processes) p _);
+      }
+
+  -- the dispatch count is one less
+  counted : (n : ℕ) → word-at t (core-at k 6) ≡ suc n → core-of (view t) k .dispatch ≡ suc n
+  counted n e = sym (free-read (pre .free) 6 (lit< tt)) ∙ e
+
+  -- what the step comes to
+  comes : (n : ℕ) → word-at t (core-at k 6) ≡ suc n → (r : Reply) (v : List ℕ)
+      → Comes (run (taken (word-at t (core-at k 3)) (process-of (after n) (word-at t (core-at k 3)) .progress)) (after n)) t r v
+      → Does (step k) t r v
+  unfolding after
+  comes n e r v h =
+      subst (λ x. Comes x t r v) (sym (idle.takes (view t) k (pre .free .work) _ n (queue .0) (counted n e) (queue .1))) h
+
+  -- the words of the taken process's progress
+  number-read : (n j : ℕ) → j < 14 → getD (taken-table t cores k (word-at t (core-at k 3)) n) (process-at cores (word-at t (core-at k 3)) (6 + j)) 0
+      ≡ getD (progress-words (process-of (after n) (word-at t (core-at k 3)) .progress)) j 0
+  unfolding after
+  number-read n j h =
+      let packs = taken-packs n in
+      let p = word-at t (core-at k 3) in
+      subst₂ (λ (u : List ℕ) (m : ℕ). getD u (process-at m p (6 + j)) 0 ≡ getD (progress-words (process-of (after n) p .progress)) j 0)
+      (sym (packs .is-pack)) (sym (packs .all-cores))
+      (read-progress (after n) p j (stands .low) (subst (λ (m : ℕ). p ≤ m) (sym (length-set-nth (view t .processes) p _)) (stands .high)) h)
+
+  -- what the code has written once the first process p runs, with the dispatch count one less
+  module _ {p count : ℕ} {u : List ℕ} (head : p ≡ word-at t (core-at k 3)) (count-is : count ≡ word-at t (core-at k 6))
+      (wrote : u ≡ taken-table t cores k p (count - 1)) where
+    n : ℕ
+    n = count - 1
+
+    above : word-at t (core-at k 6) ≡ suc n
+    unfolding n
+    above = let h = pre .count in omega arith
+
+    written : u ≡ taken-table t cores k (word-at t (core-at k 3)) n
+    unfolding n
+    written = wrote ∙ ap (λ (q : ℕ). taken-table t cores k q (count - 1)) head
+
+    packs : Packs u cores processes (after n)
+    packs = subst (λ (w : List ℕ). Packs w cores processes (after n)) (sym written) (taken-packs n)
+
+    -- the words that are then read of it
+    word-read : (j : ℕ) → j < 14 → getD u (process-at cores p (6 + j)) 0 ≡ getD (progress-words (process-of (after n) (word-at t (core-at k 3)) .progress)) j 0
+    word-read j h = (λ i. getD (written i) (process-at cores (head i) (6 + j)) 0) ∙ number-read n j h
+
+    high : word-at t (core-at k 3) ≤ length (after n .processes)
+    unfolding after
+    high = subst (λ (m : ℕ). word-at t (core-at k 3) ≤ m) (sym (length-set-nth (view t .processes) (word-at t (core-at k 3)) _)) (stands .high)
+
+    pub take-moved : {num : ℕ} {r : Reply} → num ≡ getD u (process-at cores p 6) 0 → num < 20 → r ≡ four (yes-with MOVED) → Does (step k) t r u
+    take-moved {num} {r} num-is small reply =
+        let q = word-at t (core-at k 3) in
+        let x = process-of (after n) q .progress in
+        comes n above r u (subst (λ (r : Reply). Comes (run (taken q x) (after n)) t r u) (sym reply)
+        (goes-on packs t q x (subst (λ (m : ℕ). m < 20) (num-is ∙ word-read 0 (lit< tt)) small)))
+
+    pub take-reports : {num c : ℕ} {r : Reply} {v : List ℕ} → num ≡ getD u (process-at cores p 6) 0 → 20 ≤ num → c ≡ getD u (process-at cores p 7) 0
+        → r ≡ four (yes-with (reported num p c (getD u (process-at cores p 1) 0))) → v ≡ cleared u cores p → Does (step k) t r v
+    take-reports {num} {c} {r} {v} num-is large c-is reply cleared-is =
+        let q = word-at t (core-at k 3) in
+        let x = process-of (after n) q .progress in
+        let number : num ≡ getD (progress-words x) 0 0 = num-is ∙ word-read 0 (lit< tt) in
+        let channel : c ≡ getD (progress-words x) 1 0 = c-is ∙ word-read 1 (lit< tt) in
+        let said : r ≡ four (yes-with (reported (getD (progress-words x) 0 0) q (getD (progress-words x) 1 0) (getD u (process-at cores q 1) 0))) =
+            reply ∙ (λ i. four (yes-with (reported (number i) (head i) (channel i) (getD u (process-at cores (head i) 1) 0)))) in
+        comes n above r v (subst₂ (λ (r : Reply) (v : List ℕ). Comes (run (taken q x) (after n)) t r v) (sym said)
+        (sym (cleared-is ∙ ap (λ (p : ℕ). cleared u cores p) head))
+        (answers-outcome packs t q (stands .low) high x (subst (λ (m : ℕ). 20 ≤ m) number large)))
+
+  -- the process that the code has read
+  pub can-take-first : {p : ℕ} → p ≡ word-at t (core-at k 3) → CanTake t cores k p
+  can-take-first e = subst (CanTake t cores k) (sym e) can-take-head
+
+  pub head-has : {p : ℕ} → p ≡ word-at t (core-at k 3) → HasProcess t cores p
+  head-has e = can-take-first e .process

@@ -1,1 +1,120 @@
-// Scheduler.
+// The steps of a core with nothing running and no task (document 01; 000, section 2.1).
+ghost use mathlib.Core.Path.{_≡_};
+ghost use Prim.Native.Nat.{ℕ, _+_, _*_, _-_, _≤_, _<_, min};
+ghost use lib.Dec.{eqb};
+ghost use lib.ListN.{length, set};
+ghost use Rattle.rules.specs.Lists.{bit};
+ghost use Rattle.rules.specs.State.{no-task};
+ghost use Rattle.rules.specs.Packing.{word-at, core-at, process-at};
+ghost use Rattle.rules.specs.Scheduler.{step};
+ghost use Rattle.table.specs.Has.{HasCore, HasProcess};
+ghost use Rattle.parts.specs.Does.{Does};
+ghost use Rattle.queues.specs.Fits.{CanTake, CanLoad};
+ghost use Rattle.scheduler.specs.Free.{Free, Takes, Stores, Loads, taken-table, loaded-table};
+
+use answers::Reply;
+
+// The first process p of the active queue runs, and the dispatch count is n.
+fn run_first(t: &mut [u32], cores: usize, k: usize, p: u32, n: u32)
+    requires { ⌜ CanTake (now t) cores k p ⌝ }
+    ensures { λ r. ⌜ now (t .exit) ≡ taken-table (now (t .entry)) cores k p n ⌝ }
+{
+    queues::take_first(t, cores, k, p);
+    t[8 + 16 * k + 0] = p;
+    t[8 + 16 * k + 6] = n;
+    let i = p as usize;
+    t[8 + 16 * cores + 24 * (i - 1) + 0] = 1;
+}
+
+// Take the head, count - 1; answer its outcome, or MOVED where its request goes on.
+fn take_head(t: &mut [u32], cores: usize, processes: usize, k: usize) -> Reply
+    requires { ⌜ Takes (now t) cores processes k ⌝ }
+    ensures { λ r. ⌜ Does (step k) (now (t .entry)) r (now (t .exit)) ⌝ }
+{
+    let p = table::core_word(t, k, 3);
+    let count = table::core_word(t, k, 6);
+    run_first(t, cores, k, p, count - 1);
+    let number = table::process_word(t, cores, p, 6);
+    if number < 20 {
+        return answers::moved();
+    }
+    let c = table::process_word(t, cores, p, 7);
+    parts::reports(t, cores, p, number, c)
+}
+
+// Store: with the mark set, or one process only, the queue becomes one batch; otherwise it is split.
+fn store_queue(t: &mut [u32], cores: usize, processes: usize, k: usize) -> Reply
+    requires { ⌜ Stores (now t) cores processes k ⌝ }
+    ensures { λ r. ⌜ Does (step k) (now (t .entry)) r (now (t .exit)) ⌝ }
+{
+    let p = table::core_word(t, k, 3);
+    let size = table::core_word(t, k, 5);
+    let mark = table::core_word(t, k, 7);
+    if mark == 1 {
+        queues::store_whole(t, cores, k, p);
+        return answers::moved();
+    }
+    if size == 1 {
+        queues::store_whole(t, cores, k, p);
+        return answers::moved();
+    }
+    queues::split(t, cores, k, p);
+    answers::moved()
+}
+
+// The lesser of 32 and 4 times a batch's size.
+fn dispatch_count(size: u32) -> u32
+    ensures { λ r. ⌜ r ≡ min 32 (4 * size) ⌝ }
+{
+    if size < 8 {
+        4 * size
+    } else {
+        32
+    }
+}
+
+// The mark is set exactly if the size is 1.
+fn single_mark(size: u32) -> u32
+    ensures { λ r. ⌜ r ≡ bit (eqb size 1) ⌝ }
+{
+    if size == 1 {
+        1
+    } else {
+        0
+    }
+}
+
+// Load the first batch.
+fn load_batch(t: &mut [u32], cores: usize, processes: usize, k: usize) -> Reply
+    requires { ⌜ Loads (now t) cores processes k ⌝ }
+    ensures { λ r. ⌜ Does (step k) (now (t .entry)) r (now (t .exit)) ⌝ }
+{
+    let p = table::core_word(t, k, 8);
+    queues::load_first(t, cores, k, p);
+    let size = table::core_word(t, k, 5);
+    let count = dispatch_count(size);
+    let mark = single_mark(size);
+    table::set_core_word(t, k, 6, count);
+    table::set_core_word(t, k, 7, mark);
+    answers::moved()
+}
+
+// Nothing runs and there is no task: store, take, load, or nothing to do.
+pub fn schedule(t: &mut [u32], cores: usize, processes: usize, k: usize) -> Reply
+    requires { ⌜ Free (now t) cores processes k no-task ⌝ }
+    ensures { λ r. ⌜ Does (step k) (now (t .entry)) r (now (t .exit)) ⌝ }
+{
+    let head = table::core_word(t, k, 3);
+    let count = table::core_word(t, k, 6);
+    let batch = table::core_word(t, k, 8);
+    if head != 0 {
+        if count == 0 {
+            return store_queue(t, cores, processes, k);
+        }
+        return take_head(t, cores, processes, k);
+    }
+    if batch != 0 {
+        return load_batch(t, cores, processes, k);
+    }
+    answers::idle()
+}

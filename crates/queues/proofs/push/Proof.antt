@@ -1,6 +1,6 @@
 -- The last is linked to q before the last and the size are written; both were read from the table as it came.
 use borrow.Author.Needs.{needs}
-use Rattle.queues.proofs.Within.{push-link}
+use Rattle.queues.proofs.Within.{push-link, push-parts}
 use Rattle.queues.proofs.push.Statement.{statement}
 use Rattle.queues.proofs.push.Tie as tie
 
@@ -52,7 +52,13 @@ same-length : tie.Need-same-length
 same-length c = search needs
 
 returns : tie.Need-returns
-returns c = cc
+returns c =
+    let linked = c .before .before in
+    let size = linked .before .before in
+    let last = size .before .before in
+    let start = last .before .before .before in
+    push-parts (start .args .t .now) (start .args .cores) (start .args .k) (start .args .q) (last .core-word .ensures) (size .core-word2 .ensures)
+    (linked .link-end .ensures)
 
 pub push-spec : {M : Type 1} → statement M
 push-spec =

@@ -1,7 +1,7 @@
 -- The head keeps the last and the size that were read, then the heads are stored.
 use borrow.Author.Needs.{needs}
 use native.Mathlib.Omega.{arith}
-use Rattle.queues.proofs.Within.{store-heads-fit}
+use Rattle.queues.proofs.Within.{store-heads-fit, store-parts}
 use Rattle.queues.proofs.store_whole.Statement.{statement}
 use Rattle.queues.proofs.store_whole.Tie as tie
 
@@ -27,7 +27,15 @@ same-length : tie.Need-same-length
 same-length c = search needs
 
 returns : tie.Need-returns
-returns c = cc
+returns c =
+    let stored = c .before .before in
+    let kept = stored .before .before .before .before in
+    let head = kept .before .before in
+    let size = head .before .before in
+    let last = size .before .before in
+    let start = last .before .before .before in
+    store-parts (start .args .t .now) (start .args .cores) (start .args .k) (start .pre .first) (last .core-word .ensures) (size .core-word2 .ensures)
+    (head .core-word3 .ensures) (kept .keep-batch .ensures) (stored .store-heads .ensures)
 
 pub store-whole-spec : {M : Type 1} → statement M
 store-whole-spec =
