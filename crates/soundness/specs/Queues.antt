@@ -1,0 +1,34 @@
+-- The queues of a core under one name each: 0 is the active queue, otherwise the batch with this head.
+use Prim.Native.Nat.{ℕ, _+_}
+use mathlib.Core.Bool.{Bool, _&&_}
+use mathlib.Core.List.{List}
+use lib.Dec.{eqb, leb}
+use lib.ListN.{set}
+use Rattle.rules.specs.Lists.{if_then_else_}
+use Rattle.rules.specs.Packing.{core-at, process-at}
+use Rattle.fitting.specs.Twin.{word}
+
+abbrev pub first-of : List ℕ → ℕ → ℕ → ℕ
+first-of t k queue = if eqb queue 0 then word t (core-at k 3) else queue
+
+-- where the last process stands; the size stands next to it
+abbrev pub ends-at : ℕ → ℕ → ℕ → ℕ
+ends-at K k queue = if eqb queue 0 then core-at k 4 else process-at K queue 21
+
+-- a queue's last process and its size stand at the word a and the one after
+abbrev pub stand-at : List ℕ → ℕ → ℕ → ℕ → Bool
+stand-at t a last size = eqb (word t a) last && eqb (word t (a + 1)) size
+
+abbrev pub next-head : List ℕ → ℕ → ℕ → ℕ → ℕ
+next-head t K k queue = if eqb queue 0 then word t (core-at k 8) else word t (process-at K queue 23)
+
+-- what follows a queue: another batch, or nothing, and then the core's last head is this one
+abbrev pub next-fits : List ℕ → ℕ → ℕ → ℕ → ℕ → Bool
+next-fits t N k queue next = if eqb next 0 then eqb (word t (core-at k 9)) queue else leb next N
+
+abbrev pub queue-ends : List ℕ → ℕ → ℕ → ℕ → ℕ → ℕ → ℕ → Bool
+queue-ends t K N k queue last size = stand-at t (ends-at K k queue) last size && next-fits t N k queue (next-head t K k queue)
+
+-- the head of a batch is marked once the batch was met
+abbrev pub marked : List ℕ → ℕ → List ℕ
+marked met queue = if eqb queue 0 then met else set met queue 3
