@@ -22,7 +22,7 @@ word-from-number n even l e =
     ∙ ap (λ (t : Bool). if t then plain (n / 2) else choosing (n / 2)) e
 
 -- a channel word is read back from its number
-word-back : (w : Wiring) (x : ChannelWord) → T (valid-word w x) → word-from (word-number x) ≡ x
+pub word-back : (w : Wiring) (x : ChannelWord) → T (valid-word w x) → word-from (word-number x) ≡ x
 word-back w nobody h = refl
 word-back w (plain q) h =
     let r = within-means 1 (w .N) q h in

@@ -114,7 +114,7 @@ writes-law r s s′ j at ws h b e same turned =
 
 module _ {A : Type 0} where
   -- what is there after one element was set: that one in its place, and the others
-  nth-set-same : (l : List A) (p : ℕ) (a d : A) → 1 ≤ p → p ≤ length l → nth (set-nth l p a) p d ≡ a
+  pub nth-set-same : (l : List A) (p : ℕ) (a d : A) → 1 ≤ p → p ≤ length l → nth (set-nth l p a) p d ≡ a
   nth-set-same l zero a d low high = absurd (omega arith)
   nth-set-same l (suc i) a d low high = getD-set-same l i a d (omega arith)
 

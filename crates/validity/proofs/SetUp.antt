@@ -39,12 +39,12 @@ module _ {A : Type 0} (g : ℕ → A) where
 
   module _ (f : A → ℕ) where
     -- a sum of which each part is 0
-    total-none : (a n : ℕ) → ((i : ℕ) → a ≤ i → f (g i) ≡ 0) → total f (tabulate g a n) ≡ 0
+    pub total-none : (a n : ℕ) → ((i : ℕ) → a ≤ i → f (g i) ≡ 0) → total f (tabulate g a n) ≡ 0
     total-none a zero h = refl
     total-none a (suc n) h = omega (arith, h a (omega arith), total-none (suc a) n (λ i low. h i (omega arith)))
 
     -- a sum of which each part but that at x is 0
-    total-one : (x : ℕ) → ((i : ℕ) → (i ≡ x → ⊥) → f (g i) ≡ 0) → (a n : ℕ) → a ≤ x → x < a + n → total f (tabulate g a n) ≡ f (g x)
+    pub total-one : (x : ℕ) → ((i : ℕ) → (i ≡ x → ⊥) → f (g i) ≡ 0) → (a n : ℕ) → a ≤ x → x < a + n → total f (tabulate g a n) ≡ f (g x)
     total-one x h a zero low high = absurd (omega arith)
     total-one x h a (suc n) low high = at-head (ℕ-discrete a x) (total-one x h (suc a) n)
       where
@@ -57,7 +57,7 @@ module _ {A : Type 0} (g : ℕ → A) where
 
 module _ (k j : ℕ) where
   -- what holds of no processes and their batches on core j, and goes on holding with one process more, holds of all
-  batches-by : (P : List ℕ → List (List ℕ) → Type 0) → P [] []
+  pub batches-by : (P : List ℕ → List (List ℕ) → Type 0) → P [] []
       → ((p : ℕ) (l : List ℕ) (batches : List (List ℕ)) → (p - 1) % k ≡ j → P l batches → P (p ∷ l) ((p ∷ []) ∷ batches))
       → ((p : ℕ) (l : List ℕ) (batches : List (List ℕ)) → ((p - 1) % k ≡ j → ⊥) → P l batches → P (p ∷ l) batches)
       → (l : List ℕ) → P l (its-batches k j l)
@@ -102,7 +102,7 @@ not-refused : (r : Refusal) → some r ≡ none → ⊥
 not-refused r e = let z : _≡_ {A = ℕ} 0 1 = cc in omega arith
 
 -- past a test that refuses, the test holds, and what comes after it is not refused
-past : (b : Bool) (x : Option Refusal) (r : Refusal) → (if b then x else some r) ≡ none → T b × (x ≡ none)
+pub past : (b : Bool) (x : Option Refusal) (r : Refusal) → (if b then x else some r) ≡ none → T b × (x ≡ none)
 past true x r e = (tt, e)
 past false x r e = absurd (not-refused r e)
 
@@ -112,7 +112,7 @@ past-self true x e = absurd (not-refused SELF e)
 past-self false x e = (tt, e)
 
 -- half as many channels as names
-ends-length : (l : List ℕ) (m : ℕ) → length l ≡ 2 * m → length (ends-of l) ≡ m
+pub ends-length : (l : List ℕ) (m : ℕ) → length l ≡ 2 * m → length (ends-of l) ≡ m
 ends-length [] m h = omega arith
 ends-length (x ∷ []) m h = absurd (omega arith)
 ends-length (x ∷ (y ∷ rest)) zero h = absurd (omega arith)

@@ -1,0 +1,208 @@
+-- What the end of a choice and the kernel task trigger come to: by a word that the code reads, the words that it writes then.
+use Prim.Native.Nat.{ℕ, zero, suc, _+_, _-_, _≤_, _<_}
+use mathlib.Core.Path.{_≡_, refl, sym, ap, _∙_, subst}
+use mathlib.Core.Bool.{Bool, true, false, _||_}
+use mathlib.Core.List.{List, [], _∷_}
+use mathlib.Core.Option.{Option}
+use native.Mathlib.Omega.{arith}
+use lib.Dec.{T, eqb, lit<}
+use lib.ListN.{length, getD, set}
+use borrow.Author.Tests.{eq-eqb, ne-eqb}
+use Rattle.rules.specs.Lists.{if_then_else_, bit, within, all, distinct}
+use Rattle.rules.specs.Numbers.{Answer, MOVED, SLEPT, CHOSE, FAULT, yes-with, no-because}
+use Rattle.rules.specs.State.{receiving, finish, chose, due, Alternation, Task, no-task, trigger, wake-up, Work, free, State, wiring}
+use Rattle.rules.specs.Items.{core-of, process-of, put, core, alternation}
+use Rattle.rules.specs.Rule.{Rule, run, done, the, becomes, _>>=_, _>>_}
+use Rattle.rules.specs.Steps.{has-task, with-work}
+use Rattle.rules.specs.Choice.{guard, counting, flags, lowered, finished, finish-step, trigger-step}
+use Rattle.rules.specs.Packing.{work-words, ready-number, progress-words, pack, view, process-at}
+use Rattle.rules.specs.Soundness.{own-end, own-guards, ready-in-list, valid-work}
+use Rattle.packing.proofs.Reflect.{both, three, within-means}
+use Rattle.table.specs.Has.{HasProcess}
+use Rattle.answers.specs.Four.{four}
+use Rattle.answers.specs.declared.Reply.{Reply}
+use Rattle.parts.specs.Does.{Card, At, Comes, Does}
+use Rattle.parts.specs.Shared.{task-table, asleep-table, cleared, due-table}
+use Rattle.parts.proofs.Card.{facts, cores-are, card-process, stage-valid, runs-process}
+use Rattle.choice.specs.Read.{word-of, triggered-table}
+use Rattle.choice.proofs.Packs.{Packs, Among, card-packs, among-kept, state-reads, alternation-packs, task-packs, cleared-packs, due-packs, asleep-packs}
+use Rattle.choice.proofs.Guards.{Chooses, at-chooses, ready-reads, guard-reads, count-is, alternation-chooses}
+use Rattle.choice.proofs.Rules.{ready-range, first-fault, first-on, lowered-fault, lowered-on, set-flag, unset-flag}
+
+-- Finish
+
+module _ {t : List ℕ} {cores processes k p : ℕ} {gs : List ℕ} {x : Option ℕ} (at : At t cores processes k p (finish gs x)) where
+  finish-chooses : Chooses t cores processes (view t) p 19 gs 0 x
+  unfolding progress-words
+  finish-chooses = at-chooses at 19 gs 0 x refl
+
+  finish-valid : T (own-guards (wiring (view t)) p gs) × T (ready-in-list gs x)
+  finish-valid = both (own-guards (wiring (view t)) p gs) (ready-in-list gs x) (stage-valid t cores processes k p (finish gs x) at)
+
+  -- the number of the first ready guard is one of the guards'
+  finish-range : (word-of t cores p 11 ≡ 0 → ⊥) → (1 ≤ ready-number x) × (ready-number x ≤ 8)
+  finish-range there =
+      let list = three (within 1 8 (length gs)) (all (own-end (wiring (view t)) receiving p) gs) (distinct gs) (finish-valid .0) in
+      let size = within-means 1 8 (length gs) (list .0) in
+      let range = ready-range gs x (finish-valid .1) (λ e. there (ready-reads finish-chooses ∙ e)) in
+      (range .0, omega arith)
+
+  -- the table has its word
+  pub finish-guard : (word-of t cores p 11 ≡ 0 → ⊥) → process-at cores p (11 + word-of t cores p 11) < length t
+  finish-guard there =
+      let process : HasProcess t cores p = runs-process t cores processes k p (finish gs x) at in
+      let range = finish-range there in
+      let e = ready-reads finish-chooses in
+      omega arith
+
+  -- and that word is the guard
+  chosen : (word-of t cores p 11 ≡ 0 → ⊥) → word-of t cores p (11 + word-of t cores p 11) ≡ guard gs (ready-number x)
+  chosen there =
+      let range = finish-range there in
+      ap (λ (j : ℕ). word-of t cores p (11 + j)) (ready-reads finish-chooses)
+      ∙ guard-reads finish-chooses (ready-number x) (range .0) (range .1)
+
+  abbrev finisher : Alternation
+  finisher = process-of (view t) p .alternation
+
+  -- what follows the guard, and then the count
+  abbrev ending : ℕ → ℕ → Rule Answer
+  ending c n = becomes alternation p (counting n finisher) >> finished k p c n
+
+  abbrev counted : ℕ → Rule Answer
+  counted c = the alternation p >>= (λ (a : Alternation). lowered (a .count) >>= (λ n. becomes alternation p (counting n a) >> finished k p c n))
+
+  -- the state with the count lowered
+  abbrev less : State
+  less = put alternation p (counting (finisher .count - 1) finisher) (view t)
+
+  -- no guard is ready
+  pub finish-none : {r : Reply} {u : List ℕ} → word-of t cores p 11 ≡ 0 → r ≡ four (no-because FAULT) → u ≡ t
+      → Does (finish-step k p gs x) t r u
+  finish-none {r} {u} e a b = first-fault (view t) t counted r u gs x (finish-valid .1) (sym (ready-reads finish-chooses) ∙ e) a b
+
+  module _ (there : word-of t cores p 11 ≡ 0 → ⊥) where
+    -- a guard is ready
+    one-ready : (r : Reply) (u : List ℕ) → Comes (run (counted (guard gs (ready-number x))) (view t)) t r u → Does (finish-step k p gs x) t r u
+    one-ready r u h = first-on (view t) t counted r u gs x (λ e. there (ready-reads finish-chooses ∙ e)) h
+
+    -- the count is 0
+    pub finish-fault : {r : Reply} {u : List ℕ} → word-of t cores p 5 ≡ 0 → r ≡ four (no-because FAULT) → u ≡ t
+        → Does (finish-step k p gs x) t r u
+    finish-fault {r} {u} e a b =
+        one-ready r u
+        (lowered-fault (view t) t (ending (guard gs (ready-number x))) r u (finisher .count) (sym (count-is finish-chooses) ∙ e) a b)
+
+    -- it is lowered
+    finish-lowered : Chooses (set t (process-at cores p 5) (word-of t cores p 5 - 1)) cores processes less p 19 gs 0 x
+    finish-lowered =
+        alternation-chooses finish-chooses (counting (finisher .count - 1) finisher) ((3, word-of t cores p 5 - 1) ∷ []) tt
+        (rw (count-is finish-chooses))
+
+    ended : (r : Reply) (u : List ℕ) → (word-of t cores p 5 ≡ 0 → ⊥)
+        → Comes (run (finished k p (guard gs (ready-number x)) (finisher .count - 1)) less) t r u
+        → Does (finish-step k p gs x) t r u
+    ended r u ne h =
+        one-ready r u
+        (lowered-on (view t) t (ending (guard gs (ready-number x))) r u (finisher .count) (λ e. ne (count-is finish-chooses ∙ e)) h)
+
+    -- to 0: the choice is over
+    pub finish-now : {r : Reply} {u : List ℕ} → word-of t cores p 5 ≡ 1
+        → r ≡ four (yes-with (CHOSE p (word-of t cores p (11 + word-of t cores p 11))))
+        → u ≡ cleared (set t (process-at cores p 5) (word-of t cores p 5 - 1)) cores p → Does (finish-step k p gs x) t r u
+    finish-now {r} {u} e a b =
+        let one = count-is finish-chooses in
+        let left : finisher .count - 1 ≡ 0 = omega arith in
+        ended r u (λ z. omega arith)
+        (subst (λ (n : ℕ). Comes (run (finished k p (guard gs (ready-number x)) n) less) t r u)
+        (sym left)
+        (a ∙ ap (λ (c : ℕ). four (yes-with (CHOSE p c))) (chosen there), b ∙ cleared-packs (finish-lowered .packs) p (finish-lowered .among) .is))
+
+    -- above 0: it sleeps. The words read are i and m, the tables on the way v and w.
+    pub finish-later : {r : Reply} {u v w : List ℕ} {i m c : ℕ} → (word-of t cores p 5 ≡ 0 → ⊥) → (word-of t cores p 5 ≡ 1 → ⊥)
+        → i ≡ word-of t cores p 11 → m ≡ word-of t cores p 5 → c ≡ word-of t cores p (11 + i)
+        → v ≡ set t (process-at cores p 5) (m - 1) → w ≡ due-table v cores p 23 c → r ≡ four (yes-with (SLEPT p))
+        → u ≡ asleep-table w cores k p 0 0 → Does (finish-step k p gs x) t r u
+    finish-later {r} {u} {v} {w} {i} {m} {c} ne more ready read found first second a b =
+        let count = count-is finish-chooses in
+        let left : finisher .count - 1 ≡ suc (finisher .count - 2) = omega arith in
+        let g : ℕ = guard gs (ready-number x) in
+        let due-there : w ≡ due-table (set t (process-at cores p 5) (word-of t cores p 5 - 1)) cores p 23 g =
+            let e : c ≡ g = found ∙ ap (λ (j : ℕ). word-of t cores p (11 + j)) ready ∙ chosen there in
+            rw (second, first, read, e) in
+        ended r u ne
+        (subst (λ (n : ℕ). Comes (run (finished k p g n) less) t r u) (sym left)
+        (a,
+        b ∙ ap (λ (l : List ℕ). asleep-table l cores k p 0 0) due-there
+        ∙ asleep-packs (due-packs (finish-lowered .packs) p (finish-lowered .among) g) p
+        (among-kept less p _ (finish-lowered .among)) k (at .card .inside)))
+
+-- Trigger
+
+module _ {t : List ℕ} {cores processes k q : ℕ} (card : Card t cores processes k) (work : core-of (view t) k .work ≡ free (trigger q)) where
+  trigger-among : Among (view t) q
+  trigger-among =
+      let e = cores-are t cores processes k card in
+      let inside = card .inside in
+      let valid : T (valid-work (wiring (view t)) (core-of (view t) k .work)) = facts t (card .is-sound) .cores k (omega arith) .work in
+      within-means 1 (length (view t .processes)) q (subst (λ (w : Work). T (valid-work (wiring (view t)) w)) work valid)
+
+  -- the table has the words of q
+  pub trigger-process : HasProcess t cores q
+  trigger-process = card-process t cores processes k card q (trigger-among .0) (trigger-among .1)
+
+  abbrev triggered : Alternation
+  triggered = process-of (view t) q .alternation
+
+  trigger-count : word-of t cores q 5 ≡ triggered .count
+  trigger-count = state-reads (card-packs card) q trigger-among 5 (lit< tt)
+
+  trigger-waiting : word-of t cores q 4 ≡ bit (triggered .waiting)
+  trigger-waiting = state-reads (card-packs card) q trigger-among 4 (lit< tt)
+
+  -- what follows the count
+  abbrev triggering : ℕ → Rule Answer
+  triggering n =
+      becomes alternation q (flags (triggered .enabling) false false (counting n triggered))
+      >> (has-task k (if triggered .waiting || eqb n 0 then wake-up q else no-task) >> done MOVED)
+
+  pub trigger-fault : {r : Reply} {u : List ℕ} → word-of t cores q 5 ≡ 0 → r ≡ four (no-because FAULT) → u ≡ t → Does (trigger-step k q) t r u
+  trigger-fault {r} {u} e a b = lowered-fault (view t) t triggering r u (triggered .count) (sym trigger-count ∙ e) a b
+
+  -- the task that comes next, by its words
+  trigger-done : (r : Reply) (u : List ℕ) (task p : ℕ)
+      → work-words (free (if triggered .waiting || eqb (triggered .count - 1) 0 then wake-up q else no-task)) ≡ 0 ∷ task ∷ p ∷ []
+      → (word-of t cores q 5 ≡ 0 → ⊥) → r ≡ four (yes-with MOVED) → u ≡ task-table (triggered-table t cores q (word-of t cores q 5 - 1)) k task p
+      → Does (trigger-step k q) t r u
+  trigger-done r u task p words ne a b =
+      let n = triggered .count - 1 in
+      lowered-on (view t) t triggering r u (triggered .count) (λ e. ne (trigger-count ∙ e))
+      (a,
+      b ∙ task-packs (alternation-packs (card-packs card) q trigger-among (flags (triggered .enabling) false false (counting n triggered))
+      ((1, 0) ∷ (2, 0) ∷ (3, word-of t cores q 5 - 1) ∷ []) tt (rw trigger-count)) k (card .inside)
+      (if triggered .waiting || eqb n 0 then wake-up q else no-task) task p words .is)
+
+  -- waiting had been set
+  pub trigger-waited : {r : Reply} {u : List ℕ} → word-of t cores q 4 ≡ 1 → (word-of t cores q 5 ≡ 0 → ⊥) → r ≡ four (yes-with MOVED)
+      → u ≡ task-table (triggered-table t cores q (word-of t cores q 5 - 1)) k 2 q → Does (trigger-step k q) t r u
+  trigger-waited {r} {u} e =
+      let reads = trigger-waiting in trigger-done r u 2 q (rw (set-flag (triggered .waiting) (λ z. omega arith)))
+
+  -- the new count is 0
+  pub trigger-last : {r : Reply} {u : List ℕ} → word-of t cores q 5 ≡ 1 → (word-of t cores q 5 ≡ 0 → ⊥) → r ≡ four (yes-with MOVED)
+      → u ≡ task-table (triggered-table t cores q (word-of t cores q 5 - 1)) k 2 q → Does (trigger-step k q) t r u
+  trigger-last {r} {u} e =
+      let reads = trigger-count in
+      trigger-done r u 2 q (rw (eq-eqb (triggered .count - 1) 0 (omega arith)) (either (triggered .waiting)))
+    where
+      either : (y : Bool) → work-words (free (if y || true then wake-up q else no-task)) ≡ 0 ∷ 2 ∷ q ∷ []
+      either true = refl
+      either false = refl
+
+  -- neither
+  pub trigger-over : {r : Reply} {u : List ℕ} → (word-of t cores q 4 ≡ 1 → ⊥) → (word-of t cores q 5 ≡ 1 → ⊥) → (word-of t cores q 5 ≡ 0 → ⊥)
+      → r ≡ four (yes-with MOVED) → u ≡ task-table (triggered-table t cores q (word-of t cores q 5 - 1)) k 0 0 → Does (trigger-step k q) t r u
+  trigger-over {r} {u} calm more ne =
+      let count = trigger-count in
+      trigger-done r u 0 0
+      (rw (unset-flag (triggered .waiting) (λ e. calm (trigger-waiting ∙ e)), ne-eqb (triggered .count - 1) 0 (λ z. omega arith))) ne

@@ -1,0 +1,133 @@
+-- A table in which a process is at a stage of a choice: its words, its guards, and what it packs after the process goes on.
+use Prim.Native.Nat.{ℕ, zero, suc, _+_, _≤_, _<_}
+use mathlib.Core.Path.{_≡_, refl, sym, ap, _∙_, subst}
+use mathlib.Core.Bool.{Bool, true, false}
+use mathlib.Core.List.{List, [], _∷_}
+use mathlib.Core.Option.{Option}
+use native.Mathlib.Omega.{arith}
+use native.Mathlib.Nat.{zero-add}
+use lib.Dec.{T, ltb, lit<}
+use lib.ListN.{length, getD, set}
+use Rattle.rules.specs.Lists.{if_then_else_, nth, within, all, distinct}
+use Rattle.rules.specs.State.{receiving, Stage, doing, Process, Alternation, ChannelWord, State, wiring}
+use Rattle.rules.specs.Items.{process-of, no-process, put, alternation, progress, channel-word}
+use Rattle.rules.specs.Choice.{guard}
+use Rattle.rules.specs.Packing.{ready-number, padded, of-choice, progress-words, pack, view, word-number, process-at, channel-at}
+use Rattle.rules.specs.Soundness.{own-end, own-guards}
+use Rattle.packing.proofs.Focus.{writes, below}
+use Rattle.packing.proofs.Blocks.{second-part}
+use Rattle.packing.proofs.Reflect.{three, within-means, all-at}
+use Rattle.packing.proofs.ReadLaws.{alternation-words, padded-listed, getD-tabulate}
+use Rattle.packing.proofs.WriteLaws.{nth-set-same}
+use Rattle.parts.specs.Does.{At}
+use Rattle.parts.proofs.Card.{own-end-range, runs-range}
+use Rattle.choice.specs.Read.{word-of, index-at, stage-table, next-table}
+use Rattle.choice.proofs.Packs.{Packs, Among, card-packs, put-twice, progress-kept, among-kept, progress-reads, state-reads, alternation-packs, progress-packs, word-packs}
+
+-- The table packs s, and process p is at a stage of a choice with this number, these guards, this index and first ready guard.
+pub record Chooses (t : List ℕ) (cores processes : ℕ) (s : State) (p n : ℕ) (gs : List ℕ) (i : ℕ) (r : Option ℕ) : Type 0 where
+  pub packs : Packs t cores processes s
+  pub among : Among s p
+  pub words : progress-words (process-of s p .progress) ≡ of-choice n gs i r
+
+-- so it is where a process runs at such a stage
+pub at-chooses : {t : List ℕ} {cores processes k p : ℕ} {x : Stage} → At t cores processes k p x → (n : ℕ) (gs : List ℕ) (i : ℕ) (r : Option ℕ)
+    → progress-words (doing x) ≡ of-choice n gs i r → Chooses t cores processes (view t) p n gs i r
+at-chooses {t} {cores} {processes} {k} {p} {x} at n gs i r words =
+    record {
+      packs = card-packs (at .card);
+      among = runs-range t cores processes k p x at;
+      words = ap progress-words (at .stage) ∙ words;
+    }
+
+-- a guard of one's own is a channel
+pub guard-range : (s : State) (p : ℕ) (gs : List ℕ) → T (own-guards (wiring s) p gs) → (i : ℕ) → 1 ≤ i → i ≤ length gs
+    → (1 ≤ guard gs i) × (guard gs i ≤ length (s .channels))
+guard-range s p gs own zero low high = absurd (omega arith)
+guard-range s p gs own (suc i) low high =
+    let t = three (within 1 8 (length gs)) (all (own-end (wiring s) receiving p) gs) (distinct gs) own in
+    own-end-range s receiving p (getD gs i 0) (all-at (own-end (wiring s) receiving p) gs 0 (t .1) i (omega arith))
+
+module _ {t : List ℕ} {cores processes : ℕ} {s : State} {p n : ℕ} {gs : List ℕ} {i : ℕ} {r : Option ℕ}
+    (h : Chooses t cores processes s p n gs i r) where
+  -- the words of its progress
+  reads : (f : ℕ) → f < 14 → word-of t cores p (6 + f) ≡ getD (of-choice n gs i r) f 0
+  reads f b = progress-reads (h .packs) p (h .among) f b ∙ ap (λ (l : List ℕ). getD l f 0) (h .words)
+
+  pub length-reads : word-of t cores p 9 ≡ length gs
+  length-reads = reads 3 (lit< tt)
+
+  pub index-reads : word-of t cores p 10 ≡ i
+  index-reads = reads 4 (lit< tt)
+
+  pub ready-reads : word-of t cores p 11 ≡ ready-number r
+  ready-reads = reads 5 (lit< tt)
+
+  pub guard-reads : (j : ℕ) → 1 ≤ j → j ≤ 8 → word-of t cores p (11 + j) ≡ guard gs j
+  guard-reads zero low high = absurd (omega arith)
+  guard-reads (suc j) low high =
+      let e : 11 + suc j ≡ 6 + (6 + j) = omega arith in
+      ap (word-of t cores p) e ∙ reads (6 + j) (omega arith)
+      ∙ second-part (n ∷ 0 ∷ 0 ∷ length gs ∷ i ∷ ready-number r ∷ []) (padded 8 gs) 6 j refl
+      ∙ ap (λ (l : List ℕ). getD l j 0) (padded-listed 8 gs)
+      ∙ getD-tabulate (λ f. getD gs f 0) 0 8 j (omega arith) ∙ ap (λ (f : ℕ). getD gs f 0) (zero-add j)
+
+  -- its count
+  pub count-is : word-of t cores p 5 ≡ process-of s p .alternation .count
+  count-is = state-reads (h .packs) p (h .among) 5 (lit< tt)
+
+  -- it is at another stage with the same guards
+  stage-packs : (x : Stage) (n′ i′ : ℕ) (r′ : Option ℕ) (ws : List (ℕ × ℕ)) → T (below 14 (λ j. j) ws)
+      → writes ws (λ j. j) (of-choice n gs i r) ≡ of-choice n′ gs i′ r′ → progress-words (doing x) ≡ of-choice n′ gs i′ r′
+      → Packs (writes ws (λ j. process-at cores p (6 + j)) t) cores processes (put progress p (doing x) s)
+  stage-packs x n′ i′ r′ ws b turned words =
+      progress-packs (h .packs) p (h .among) (doing x) ws b
+      (ap (writes ws (λ j. j)) (h .words) ∙ turned ∙ sym words)
+
+  -- at the same guard
+  pub same-guard : (x : Stage) (n′ : ℕ) → progress-words (doing x) ≡ of-choice n′ gs i r
+      → set t (process-at cores p 6) n′ ≡ pack (put progress p (doing x) s)
+  same-guard x n′ words = stage-packs x n′ i r ((0, n′) ∷ []) tt refl words .is
+
+  -- at another guard
+  pub other-guard : (x : Stage) (n′ i′ : ℕ) → progress-words (doing x) ≡ of-choice n′ gs i′ r
+      → Packs (stage-table t cores p i′ n′) cores processes (put progress p (doing x) s)
+  other-guard x n′ i′ words = stage-packs x n′ i′ r ((4, i′) ∷ (0, n′) ∷ []) tt refl words
+
+  -- at the next guard, or after the last one
+  pub next-packs : (x y : Stage) (again after : ℕ) → progress-words (doing x) ≡ of-choice again gs (i + 1) r
+      → progress-words (doing y) ≡ of-choice after gs 0 r
+      → next-table t cores p again after ≡ pack (put progress p (doing (if ltb i (length gs) then x else y)) s)
+  unfolding next-table
+  next-packs x y again after more last = rw (index-reads, length-reads) (cases (ltb i (length gs)))
+    where
+      cases : (b : Bool) → (if b then stage-table t cores p (i + 1) again else stage-table t cores p 0 after)
+          ≡ pack (put progress p (doing (if b then x else y)) s)
+      cases true = other-guard x again (i + 1) more .is
+      cases false = other-guard y after 0 last .is
+
+  -- Changes of other items leave it there.
+  pub alternation-chooses : (v : Alternation) (ws : List (ℕ × ℕ)) → T (below 4 (λ j. j) ws)
+      → writes ws (λ j. j) (alternation-words (process-of s p .alternation)) ≡ alternation-words v
+      → Chooses (writes ws (λ j. process-at cores p (2 + j)) t) cores processes (put alternation p v s) p n gs i r
+  alternation-chooses v ws b turned =
+      record {
+        packs = alternation-packs (h .packs) p (h .among) v ws b turned;
+        among = among-kept s p _ (h .among);
+        words = ap progress-words (progress-kept s p v (h .among)) ∙ h .words;
+      }
+
+  -- Another first ready guard is kept.
+  pub ready-chooses : (x : Stage) (a : ℕ) (r′ : Option ℕ) → a ≡ ready-number r′ → progress-words (doing x) ≡ of-choice n gs i r′
+      → Chooses (set t (process-at cores p 11) a) cores processes (put progress p (doing x) s) p n gs i r′
+  ready-chooses x a r′ e words =
+      record {
+        packs = stage-packs x n i r′ ((5, a) ∷ []) tt (rw e) words;
+        among = among-kept s p _ (h .among);
+        words = ap (λ (y : Process). progress-words (y .progress)) (nth-set-same (s .processes) p _ no-process (h .among .0) (h .among .1)) ∙ words;
+      }
+
+  pub word-chooses : (c : ℕ) → 1 ≤ c → c ≤ length (s .channels) → (w : ChannelWord)
+      → Chooses (set t (channel-at cores processes c 2) (word-number w)) cores processes (put channel-word c w s) p n gs i r
+  word-chooses c low high w =
+      record { packs = word-packs (h .packs) c low high w; among = h .among; words = h .words }

@@ -1,0 +1,7 @@
+pub mod Packs
+pub mod Guards
+pub mod Rules
+pub mod Stands
+pub mod Enabling
+pub mod Disabling
+pub mod Finishing

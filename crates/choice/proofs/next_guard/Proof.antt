@@ -1,0 +1,61 @@
+use mathlib.Core.Path.{_≡_}
+use mathlib.Core.Bool.{true, false}
+use native.Mathlib.Omega.{arith}
+use lib.Dec.{ltb}
+use denote.Ref.{now}
+use borrow.Author.Tests.{lt-ltb, le-ltb}
+use Rattle.choice.specs.Read.{word-of, index-at, next-table}
+use borrow.Author.Needs.{needs}
+use Rattle.choice.proofs.next_guard.Statement.{statement}
+use Rattle.choice.proofs.next_guard.Tie as tie
+
+process-word-requires : tie.Need-process-word-requires
+process-word-requires c κs = search needs
+
+process-word-requires-2 : tie.Need-process-word-requires-2
+process-word-requires-2 c κs = search needs
+
+add-goes-on : tie.Need-add-goes-on
+add-goes-on c = search needs
+
+goes-on-requires : tie.Need-goes-on-requires
+goes-on-requires c κs = search needs
+
+goes-on-requires-2 : tie.Need-goes-on-requires-2
+goes-on-requires-2 c κs = search needs
+
+same-length : tie.Need-same-length
+same-length c = search needs
+
+returns : tie.Need-returns
+unfolding next-table
+returns c =
+    let a = c .before .before .before .before .before .before .before .before .before .before .args in
+    let w = word-of (now (a .t)) (a .cores) (a .p) in
+    let more : ltb (w 10) (w 9) ≡ true = lt-ltb (w 10) (w 9) (omega arith) in
+    (rw more (cc), cc)
+
+same-length-2 : tie.Need-same-length-2
+same-length-2 c = search needs
+
+returns-2 : tie.Need-returns-2
+unfolding next-table
+returns-2 c =
+    let a = c .before .before .before .before .before .before .before .before .before .before .args in
+    let w = word-of (now (a .t)) (a .cores) (a .p) in
+    let last : ltb (w 10) (w 9) ≡ false = le-ltb (w 10) (w 9) (omega arith) in
+    (rw last (cc), cc)
+
+pub next-guard-spec : {M : Type 1} → statement M
+next-guard-spec =
+    tie.close
+    (tie.spec
+    process-word-requires
+    process-word-requires-2
+    add-goes-on
+    goes-on-requires
+    goes-on-requires-2
+    same-length
+    returns
+    same-length-2
+    returns-2)

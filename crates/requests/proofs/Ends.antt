@@ -1,0 +1,100 @@
+-- A channel's end and a list of guards: the code's tests are those of the rules.
+use Prim.Native.Nat.{ℕ, zero, suc, _≤_}
+use mathlib.Core.Path.{_≡_, refl, sym, ap, _∙_, subst}
+use mathlib.Core.Bool.{Bool, true, false}
+use mathlib.Core.List.{List, [], _∷_}
+use native.Mathlib.Omega.{arith}
+use lib.Dec.{T, eqb, lit<}
+use lib.ListN.{length, getD, length-map, List·getD-map}
+use borrow.Author.Tests.{eq-eqb, ne-eqb}
+use Rattle.rules.specs.Lists.{if_then_else_, within, nth, member}
+use Rattle.rules.specs.Numbers.{Answer, CHANNEL, OTHER-END, TWICE}
+use Rattle.rules.specs.State.{Way, sending, receiving, Channel, Ends, State, Wiring, wiring, at-end, end-of}
+use Rattle.rules.specs.Items.{no-channel, channel-of}
+use Rattle.rules.specs.Rule.{Rule, Ran, run, _>>_}
+use Rattle.rules.specs.Requests.{Request, request, asks, unless, proper-end, proper-guards}
+use Rattle.rules.specs.Packing.{pack, view, word-at, channel-at, M-of}
+use Rattle.packing.proofs.Reflect.{within-means}
+use Rattle.packing.proofs.ReadLaws.{read-channel}
+use Rattle.parts.specs.Does.{Card, Comes}
+use Rattle.parts.proofs.Card.{packed, cores-are, processes-are, M-is}
+use Rattle.requests.specs.Asked.{refusal, end-number, end-refusal, guards-refusal}
+
+-- What tests of this number n leave of what a rule comes to, x: a refusal of that number, or y where n is 0.
+abbrev Settled : List ℕ → Bool → ℕ → Ran Answer → Ran Answer → Type 0
+Settled t true n x y = x ≡ y
+Settled t false n x y = Comes x t (refusal n) t
+
+abbrev pub Checked : List ℕ → ℕ → Ran Answer → Ran Answer → Type 0
+Checked t n x y = Settled t (eqb n 0) n x y
+
+pub passes : (t : List ℕ) (n : ℕ) (x y : Ran Answer) → Checked t n x y → n ≡ 0 → x ≡ y
+passes t n x y h e = subst (λ (b : Bool). Settled t b n x y) (eq-eqb n 0 e) h
+
+pub stops : (t : List ℕ) (n : ℕ) (x y : Ran Answer) → Checked t n x y → (n ≡ 0 → ⊥) → Comes x t (refusal n) t
+stops t n x y h e = subst (λ (b : Bool). Settled t b n x y) (ne-eqb n 0 e) h
+
+-- The rules
+
+module _ (t : List ℕ) (s : State) (q : Rule Answer) where
+  -- the end of a channel
+  end-tests : (known own : Bool)
+      → Checked t (end-number known own) (run ((unless known CHANNEL >> unless own OTHER-END) >> q) s) (run q s)
+  end-tests true true = refl
+  end-tests true false = (refl, refl)
+  end-tests false own = (refl, refl)
+
+-- the number of a refusal by the rules
+abbrev pub end-asked : Wiring → Way → ℕ → ℕ → ℕ
+end-asked w way p c = end-number (within 1 (length (w .ends)) c) (eqb (end-of w way c) p)
+
+pub end-checked : (t : List ℕ) (s : State) (q : Rule Answer) (w : Wiring) (way : Way) (p c : ℕ)
+    → Checked t (end-asked w way p c) (run (proper-end w way p c >> q) s) (run q s)
+end-checked t s q w way p c = end-tests t s q (within 1 (length (w .ends)) c) (eqb (end-of w way c) p)
+
+-- The table
+
+-- the word of a channel's end
+abbrev pub end-word : Way → ℕ
+end-word sending = 0
+end-word receiving = 1
+
+module _ (t : List ℕ) (cores processes channels k : ℕ) (card : Card t cores processes k) (all-channels : channels ≡ M-of t) where
+  pub channels-are : channels ≡ length (view t .channels)
+  channels-are = all-channels ∙ M-is t (card .is-sound)
+
+  -- an end of a channel of the state
+  end-viewed : (way : Way) (c : ℕ) → end-of (wiring (view t)) way c ≡ at-end way (channel-of (view t) c .ends)
+  end-viewed way zero = refl
+  end-viewed way (suc i) = ap (at-end way) (List·getD-map (λ (x : Channel). x .ends) (view t .channels) i no-channel)
+
+  end-read : (way : Way) (c : ℕ) → 1 ≤ c → c ≤ length (view t .channels)
+      → word-at t (channel-at cores processes c (end-word way)) ≡ end-of (wiring (view t)) way c
+  end-read way c low high =
+      (let e = cores-are t cores processes k card in
+      let f = processes-are t cores processes k card in
+      let g = packed t (card .is-sound) in
+      let h : word-at t (channel-at cores processes c (end-word way)) ≡ word-at (pack (view t)) (channel-at (length (view t .cores)) (length (view t .processes)) c (end-word way)) = cc in
+      h)
+      ∙ at-way way
+      ∙ sym (end-viewed way c)
+    where
+      at-way : (way : Way) → word-at (pack (view t)) (channel-at (length (view t .cores)) (length (view t .processes)) c (end-word way)) ≡ at-end way (channel-of (view t) c .ends)
+      at-way sending = read-channel (view t) c 0 low high (lit< tt)
+      at-way receiving = read-channel (view t) c 1 low high (lit< tt)
+
+  -- the code's test of a channel's end is the rules'
+  pub end-same : (way : Way) (p c : ℕ) → end-refusal t cores processes channels p (end-word way) c ≡ end-asked (wiring (view t)) way p c
+  end-same way p c =
+      ap (λ (m : ℕ). end-number (within 1 m c) (eqb (word-at t (channel-at cores processes c (end-word way))) p)) same-number
+      ∙ cases (within 1 (length (wiring (view t) .ends)) c) refl
+    where
+      same-number : channels ≡ length (wiring (view t) .ends)
+      same-number = channels-are ∙ sym (length-map (view t .channels) (λ (x : Channel). x .ends))
+
+      cases : (known : Bool) → within 1 (length (wiring (view t) .ends)) c ≡ known
+          → end-number known (eqb (word-at t (channel-at cores processes c (end-word way))) p) ≡ end-number known (eqb (end-of (wiring (view t)) way c) p)
+      cases false e = refl
+      cases true e =
+          let range = within-means 1 (length (wiring (view t) .ends)) c (subst T (sym e) tt) in
+          ap (λ (n : ℕ). end-number true (eqb n p)) (end-read way c (range .0) (rw length-map at (range .1)))

@@ -1,0 +1,153 @@
+-- The process that runs on a core of a sound table, and whether it has anything in hand.
+use Prim.Native.Nat.{ℕ, zero, suc, _+_, _≤_, _<_}
+use mathlib.Core.Path.{_≡_, refl, sym, ap, _∙_, subst}
+use mathlib.Core.Bool.{Bool, true, false}
+use mathlib.Core.List.{List, [], _∷_}
+use native.Mathlib.Omega.{arith}
+use native.Mathlib.Nat.{zero-add}
+use lib.Dec.{T, eqb, lit<}
+use lib.ListN.{length, getD}
+use borrow.Author.Tests.{eqb-true, eqb-false, eq-eqb, ne-eqb}
+use Rattle.rules.specs.Lists.{if_then_else_}
+use Rattle.rules.specs.Numbers.{Answer, BUSY}
+use Rattle.rules.specs.State.{Progress, nothing, doing, due, Task, no-task, trigger, wake-up, Process, Work, runs, free, Core, State, Wiring, wiring}
+use Rattle.rules.specs.Items.{no-core, no-process, core-of, process-of}
+use Rattle.rules.specs.Rule.{Ran, run, refused, _>>=_}
+use Rattle.rules.specs.Requests.{Request, request, requester, in-hand, asks}
+use Rattle.rules.specs.Packing.{pack, view, view-core, view-process, progress-from, progress-words, word-at, core-word, process-word, core-at, process-at, K-of, N-of}
+use Rattle.rules.specs.Soundness.{valid-work}
+use Rattle.packing.proofs.Tabulate.{tabulate-at}
+use Rattle.packing.proofs.Reflect.{within-means}
+use Rattle.packing.proofs.ReadLaws.{read-progress}
+use Rattle.parts.specs.Does.{Card, Does}
+use Rattle.parts.proofs.Card.{packed, facts, cores-are, processes-are, card-core, card-process, K-is, N-is}
+use Rattle.answers.specs.Four.{four}
+use Rattle.answers.specs.declared.Reply.{Reply}
+use Rattle.requests.specs.Asked.{HasRunning, asker, refusal}
+
+-- on core k the process p runs, with nothing in hand
+pub record Idle (s : State) (k p : ℕ) : Type 0 where
+  pub work : core-of s k .work ≡ runs p
+  pub progress : process-of s p .progress ≡ nothing
+  pub low : 1 ≤ p
+  pub high : p ≤ length (s .processes)
+
+-- what a request comes to, from the core's work and from the running process's progress
+module _ (s : State) (w : Wiring) (x : Request) (k : ℕ) where
+  abbrev from-work : Work → Ran Answer
+  from-work y = run (requester y >>= (λ p. asks w k p x)) s
+
+  abbrev from-progress : ℕ → Progress → Ran Answer
+  from-progress p y = run (in-hand p y >>= (λ p. asks w k p x)) s
+
+  -- a process with nothing in hand is asked for its request
+  pub run-asks : (p : ℕ) → Idle s k p → run (request w x k) s ≡ run (asks w k p x) s
+  run-asks p idle = ap from-work (idle .work) ∙ ap (from-progress p) (idle .progress)
+
+  -- any other is refused
+  refused-free : (y : Task) → core-of s k .work ≡ free y → run (request w x k) s ≡ refused BUSY
+  refused-free y e = ap from-work e
+
+  refused-busy : (p : ℕ) → core-of s k .work ≡ runs p → (process-of s p .progress ≡ nothing → ⊥) → run (request w x k) s ≡ refused BUSY
+  refused-busy p e busy = ap from-work e ∙ cases (process-of s p .progress) refl
+    where
+      cases : (y : Progress) → process-of s p .progress ≡ y → from-progress p y ≡ refused BUSY
+      cases nothing e′ = absurd (busy e′)
+      cases (doing y) e′ = refl
+      cases (due y) e′ = refl
+
+-- the process that core k runs, 0 for none, and its task, as the table has them
+abbrev runner : List ℕ → ℕ → ℕ
+runner t k = core-word t k 0
+
+abbrev task-of : List ℕ → ℕ → Task
+task-of t k = getD (no-task ∷ trigger (core-word t k 2) ∷ wake-up (core-word t k 2) ∷ []) (core-word t k 1) no-task
+
+module _ (t : List ℕ) (cores processes k : ℕ) (card : Card t cores processes k) where
+  core-viewed : core-of (view t) k ≡ view-core t k
+  unfolding view
+  core-viewed =
+      let e = card .all-cores in
+      let h = card .inside in
+      tabulate-at (view-core t) 0 (K-of t) no-core k (omega arith) ∙ ap (view-core t) (zero-add k)
+
+  process-viewed : (p : ℕ) → 1 ≤ p → p ≤ N-of t → process-of (view t) p ≡ view-process t p
+  unfolding view
+  process-viewed zero low high = absurd (omega arith)
+  process-viewed (suc i) low high = tabulate-at (view-process t) 1 (N-of t) no-process i (omega arith) ∙ ap (view-process t) (omega arith)
+
+  -- what the core does
+  work-free : runner t k ≡ 0 → core-of (view t) k .work ≡ free (task-of t k)
+  unfolding view-core
+  work-free e = ap (λ (c : Core). c .work) core-viewed ∙ rw (eq-eqb (runner t k) 0 e)
+
+  work-runs : (runner t k ≡ 0 → ⊥) → core-of (view t) k .work ≡ runs (runner t k)
+  unfolding view-core
+  work-runs e = ap (λ (c : Core). c .work) core-viewed ∙ rw (ne-eqb (runner t k) 0 e)
+
+  -- the running process is one of the state's
+  running-range : (p : ℕ) → core-of (view t) k .work ≡ runs p → (1 ≤ p) × (p ≤ length (view t .processes))
+  running-range p e =
+      let a = cores-are t cores processes k card in
+      let b = card .inside in
+      let work : T (valid-work (wiring (view t)) (core-of (view t) k .work)) = facts t (card .is-sound) .cores k (omega arith) .work in
+      within-means 1 (length (view t .processes)) p (subst (λ (y : Work). T (valid-work (wiring (view t)) y)) e work)
+
+  -- whether a process has anything in hand
+  progress-none : (p : ℕ) → 1 ≤ p → p ≤ length (view t .processes) → word-at t (process-at cores p 6) ≡ 0
+      → process-of (view t) p .progress ≡ nothing
+  unfolding view-process progress-from
+  progress-none p low high e =
+      let n = N-is t (card .is-sound) in
+      let same : process-word t p 6 ≡ 0 = ap (λ (m : ℕ). word-at t (process-at m p 6)) (sym (card .all-cores)) ∙ e in
+      ap (λ (r : Process). r .progress) (process-viewed p low (omega arith)) ∙ rw same
+
+  progress-some : (p : ℕ) → 1 ≤ p → p ≤ length (view t .processes) → (word-at t (process-at cores p 6) ≡ 0 → ⊥)
+      → process-of (view t) p .progress ≡ nothing → ⊥
+  unfolding progress-words
+  progress-some p low high e idle =
+      e (ap (λ (m : ℕ). word-at t (process-at m p 6)) (cores-are t cores processes k card)
+      ∙ ap (λ (u : List ℕ). word-at u (process-at (length (view t .cores)) p 6)) (packed t (card .is-sound))
+      ∙ read-progress (view t) p 0 low high (lit< tt)
+      ∙ ap (λ (y : Progress). getD (progress-words y) 0 0) idle)
+
+  -- the words that the code reads are there
+  pub has-running : HasRunning t cores k
+  has-running =
+      record {
+        core = card-core t cores processes k card;
+        process = λ low.
+          let range = running-range (runner t k) (work-runs (λ e. omega arith)) in
+          card-process t cores processes k card (runner t k) (range .0) (range .1);
+      }
+
+  module _ (p : ℕ) (e : p ≡ asker t cores k) where
+    abbrev found : Bool → Bool → ℕ
+    found none idle = if none then 0 else if idle then runner t k else 0
+
+    -- where the code finds no process, the request is refused
+    pub busy : p ≡ 0 → (w : Wiring) (x : Request) → run (request w x k) (view t) ≡ refused BUSY
+    busy z w x = cases (eqb (runner t k) 0) (eqb (word-at t (process-at cores (runner t k) 6)) 0) refl refl e
+      where
+        cases : (a b : Bool) → eqb (runner t k) 0 ≡ a → eqb (word-at t (process-at cores (runner t k) 6)) 0 ≡ b → p ≡ found a b
+            → run (request w x k) (view t) ≡ refused BUSY
+        cases true b f g q = refused-free (view t) w x k (task-of t k) (work-free (eqb-true (runner t k) 0 f))
+        cases false true f g q = absurd (eqb-false (runner t k) 0 f (sym q ∙ z))
+        cases false false f g q =
+            let work = work-runs (eqb-false (runner t k) 0 f) in
+            let range = running-range (runner t k) work in
+            refused-busy (view t) w x k (runner t k) work
+            (progress-some (runner t k) (range .0) (range .1) (eqb-false (word-at t (process-at cores (runner t k) 6)) 0 g))
+
+    -- any other that it finds has nothing in hand
+    pub idle : (p ≡ 0 → ⊥) → Idle (view t) k p
+    idle nz = cases (eqb (runner t k) 0) (eqb (word-at t (process-at cores (runner t k) 6)) 0) refl refl e
+      where
+        cases : (a b : Bool) → eqb (runner t k) 0 ≡ a → eqb (word-at t (process-at cores (runner t k) 6)) 0 ≡ b → p ≡ found a b → Idle (view t) k p
+        cases true b f g q = absurd (nz q)
+        cases false false f g q = absurd (nz q)
+        cases false true f g q =
+            let work = work-runs (eqb-false (runner t k) 0 f) in
+            let range = running-range (runner t k) work in
+            let progress = progress-none (runner t k) (range .0) (range .1) (eqb-true (word-at t (process-at cores (runner t k) 6)) 0 g) in
+            rw q (record { work = work; progress = progress; low = range .0; high = range .1 })

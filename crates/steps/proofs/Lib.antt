@@ -1,0 +1,6 @@
+pub mod Words
+pub mod Packs
+pub mod Moves
+pub mod Near
+pub mod Comes
+pub mod Wake

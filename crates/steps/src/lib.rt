@@ -1,0 +1,192 @@
+// The steps of send and receive (document 01; 000, figure 7), for the process p that runs on core k.
+ghost use mathlib.Core.Path.{_≡_};
+ghost use Prim.Native.Nat.{_<_};
+ghost use lib.ListN.{getD, set};
+ghost use Rattle.rules.specs.Numbers.{MOVED, SLEPT, yes-with};
+ghost use Rattle.rules.specs.State.{look, park, copy, clear, wake};
+ghost use Rattle.rules.specs.Packing.{process-at, channel-at, word-from};
+ghost use Rattle.rules.specs.Steps.{look-step, park-step, copy-step, clear-step, wake-step};
+ghost use Rattle.answers.specs.Four.{four};
+ghost use Rattle.words.specs.Meaning.{meaning};
+ghost use Rattle.table.specs.Has.{HasCore, HasProcess, HasChannel};
+ghost use Rattle.parts.specs.Does.{At, Does, of-way};
+ghost use Rattle.parts.specs.Ways.{which};
+ghost use Rattle.parts.specs.Shared.{asleep-table};
+ghost use Rattle.steps.specs.Outcomes.{due-of, copied};
+use answers::Reply;
+use parts::Way;
+use words::Holder;
+
+// Who stands in the word of channel c.
+fn who_is_at(t: &[u32], cores: usize, processes: usize, c: u32) -> Holder
+    requires { ⌜ HasChannel (now t) cores processes c ⌝ }
+    ensures { λ r. ⌜ meaning r ≡ word-from (getD (now (t .entry)) (channel-at cores processes c 2) 0) ⌝ }
+{
+    let word = table::channel_word(t, cores, processes, c, 2);
+    words::who_stands(word)
+}
+
+// The request goes on at another stage.
+fn goes_on(t: &mut [u32], cores: usize, p: u32, way: Way, n: u32) -> Reply
+    requires { ⌜ HasProcess (now t) cores p ⌝ ∗ ⌜ n < 100 ⌝ }
+    ensures table { λ r. ⌜ now (t .exit) ≡ set (now (t .entry)) (process-at cores p 6) (of-way (which way) n) ⌝ }
+    ensures reply { λ r. ⌜ r ≡ four (yes-with MOVED) ⌝ }
+{
+    let number = parts::numbered(way, n);
+    parts::move_on(t, cores, p, number)
+}
+
+// The partner is q: next copy.
+fn finds(t: &mut [u32], cores: usize, p: u32, way: Way, q: u32) -> Reply
+    requires { ⌜ HasProcess (now t) cores p ⌝ }
+    ensures table { λ r. ⌜ now (t .exit) ≡ set (set (now (t .entry)) (process-at cores p 8) q) (process-at cores p 6) (of-way (which way) 3) ⌝ }
+    ensures reply { λ r. ⌜ r ≡ four (yes-with MOVED) ⌝ }
+{
+    table::set_process_word(t, cores, p, 8, q);
+    goes_on(t, cores, p, way, 3)
+}
+
+// Look: nobody, or one who is choosing: next park. Otherwise that process is the partner: next copy.
+pub fn look_at(
+    t: &mut [u32],
+    cores: usize,
+    processes: usize,
+    k: usize,
+    p: u32,
+    way: Way,
+    c: u32,
+) -> Reply
+    requires { ⌜ At (now t) cores processes k p (look (which way) c) ⌝ }
+    ensures { λ r. ⌜ Does (look-step p (which way) c) (now (t .entry)) r (now (t .exit)) ⌝ }
+{
+    let found = who_is_at(t, cores, processes, c);
+    match found {
+        Holder::Nobody => goes_on(t, cores, p, way, 2),
+        Holder::Choosing(_) => goes_on(t, cores, p, way, 2),
+        Holder::Plain(partner) => finds(t, cores, p, way, partner),
+    }
+}
+
+// The number of the outcome of send and of receive: SENT or GOT.
+fn due_number(way: Way) -> u32
+    ensures { λ r. ⌜ r ≡ due-of (which way) ⌝ }
+{
+    match way {
+        Way::Sending => 21,
+        Way::Receiving => 22,
+    }
+}
+
+// Process p falls asleep with its outcome due, and the core has a task, of process q.
+fn sleeps(t: &mut [u32], cores: usize, k: usize, p: u32, way: Way, task: u32, q: u32) -> Reply
+    requires { ⌜ HasProcess (now t) cores p ⌝ ∗ ⌜ HasCore (now t) k ⌝ }
+    ensures table { λ r. ⌜ now (t .exit) ≡ asleep-table (set (now (t .entry)) (process-at cores p 6) (due-of (which way))) cores k p task q ⌝ }
+    ensures reply { λ r. ⌜ r ≡ four (yes-with (SLEPT p)) ⌝ }
+{
+    let number = due_number(way);
+    table::set_process_word(t, cores, p, 6, number);
+    parts::falls_asleep(t, cores, k, p, task, q)
+}
+
+// Park: swap one's plain name into the word. What stood there decides: nobody, or one who is choosing, who is to be triggered: one
+// falls asleep. A process: the look was stale, next copy.
+pub fn park_at(
+    t: &mut [u32],
+    cores: usize,
+    processes: usize,
+    k: usize,
+    p: u32,
+    way: Way,
+    c: u32,
+) -> Reply
+    requires { ⌜ At (now t) cores processes k p (park (which way) c) ⌝ }
+    ensures { λ r. ⌜ Does (park-step k p (which way) c) (now (t .entry)) r (now (t .exit)) ⌝ }
+{
+    let found = who_is_at(t, cores, processes, c);
+    let name = words::plain_name(p);
+    table::set_channel_word(t, cores, processes, c, 2, name);
+    match found {
+        Holder::Nobody => sleeps(t, cores, k, p, way, 0, 0),
+        Holder::Choosing(q) => sleeps(t, cores, k, p, way, 1, q),
+        Holder::Plain(q) => finds(t, cores, p, way, q),
+    }
+}
+
+// A sender writes its data word into the partner's, a receiver takes the partner's into its own.
+fn copy_word(t: &mut [u32], cores: usize, p: u32, way: Way, q: u32)
+    requires { ⌜ HasProcess (now t) cores p ⌝ ∗ ⌜ HasProcess (now t) cores q ⌝ }
+    ensures { λ r. ⌜ now (t .exit) ≡ copied (which way) (now (t .entry)) cores p q ⌝ }
+{
+    match way {
+        Way::Sending => {
+            let v = table::process_word(t, cores, p, 1);
+            table::set_process_word(t, cores, q, 1, v);
+        }
+        Way::Receiving => {
+            let v = table::process_word(t, cores, q, 1);
+            table::set_process_word(t, cores, p, 1, v);
+        }
+    }
+}
+
+// Copy, and one transfer more, modulo two to the 32.
+pub fn copy_data(
+    t: &mut [u32],
+    cores: usize,
+    processes: usize,
+    k: usize,
+    p: u32,
+    way: Way,
+    c: u32,
+    q: u32,
+) -> Reply
+    requires { ⌜ At (now t) cores processes k p (copy (which way) c q) ⌝ }
+    ensures { λ r. ⌜ Does (copy-step p (which way) c q) (now (t .entry)) r (now (t .exit)) ⌝ }
+{
+    copy_word(t, cores, p, way, q);
+    let n = table::channel_word(t, cores, processes, c, 3);
+    let one_more = std::num::wrapping_add_u32(n, 1);
+    table::set_channel_word(t, cores, processes, c, 3, one_more);
+    goes_on(t, cores, p, way, 4)
+}
+
+// Clear: the word becomes 0.
+pub fn clear_word(
+    t: &mut [u32],
+    cores: usize,
+    processes: usize,
+    k: usize,
+    p: u32,
+    way: Way,
+    c: u32,
+    q: u32,
+) -> Reply
+    requires { ⌜ At (now t) cores processes k p (clear (which way) c q) ⌝ }
+    ensures { λ r. ⌜ Does (clear-step p (which way) c q) (now (t .entry)) r (now (t .exit)) ⌝ }
+{
+    table::set_channel_word(t, cores, processes, c, 2, 0);
+    goes_on(t, cores, p, way, 5)
+}
+
+// Wake: the partner, who must be asleep, goes to the end of this core's active queue; answer SENT or GOT.
+pub fn wake_partner(
+    t: &mut [u32],
+    cores: usize,
+    processes: usize,
+    k: usize,
+    p: u32,
+    way: Way,
+    c: u32,
+    q: u32,
+) -> Reply
+    requires { ⌜ At (now t) cores processes k p (wake (which way) c q) ⌝ }
+    ensures { λ r. ⌜ Does (wake-step k p (which way) c q) (now (t .entry)) r (now (t .exit)) ⌝ }
+{
+    let place = table::process_word(t, cores, q, 0);
+    if place != 3 {
+        return answers::refused(answers::FAULT);
+    }
+    queues::join(t, cores, processes, k, q);
+    let number = due_number(way);
+    parts::reports(t, cores, p, number, c)
+}
