@@ -5,7 +5,7 @@ use mathlib.Core.Bool.{Bool, true, false}
 use mathlib.Core.List.{List}
 use native.Mathlib.Omega.{arith}
 use lib.Dec.{T, eqb, ltb}
-use lib.ListN.{length}
+use lib.ListN.{length, getD}
 use borrow.Author.Tests.{eqb-true, eq-eqb, ltb-true, lt-ltb}
 use Rattle.rules.specs.Lists.{if_then_else_}
 use Rattle.rules.specs.Numbers.{
@@ -47,8 +47,8 @@ use Rattle.rules.specs.Soundness.{sound}
 use Rattle.rules.specs.Calls.{Result, Ask, refusal, rule-of, outcome-of, call}
 use Rattle.answers.specs.Four.{four, words-after}
 use Rattle.answers.specs.declared.Reply.{Reply}
-use Rattle.parts.specs.Does.{Comes, Does}
-use Rattle.parts.proofs.Card.{K-is}
+use Rattle.parts.specs.Does.{Comes, Does, Card}
+use Rattle.parts.proofs.Card.{K-is, length-is}
 use Rattle.fontarisca.specs.First.{first-refusal}
 
 -- an accepted call's words are written
@@ -158,3 +158,16 @@ module _ (t answer : List ℕ) (k : ℕ) (ask : Ask) where
       let sure : sound t ≡ true = T-true (sound t) (ok .is-sound) in
       let there : ltb k (length (view t .cores)) ≡ true = lt-ltb k (length (view t .cores)) (subst (λ (n : ℕ). k < n) (K-is t (ok .is-sound)) (ok .inside)) in
       rw (three, sure, there) (told (run (rule-of (wiring (view t)) ask k) (view t)) t answer u r does)
+
+module _ (t answer : List ℕ) (k : ℕ) {why : ℕ} (found : why ≡ first-refusal t answer k) (none : why ≡ 0) where
+  -- a call that the code hasn't refused
+  pub ok : Allowed t answer k
+  ok = allowed t answer k (sym found ∙ none)
+
+  -- has a sound table with such a core
+  pub card : {cores processes : ℕ} → cores ≡ getD t 0 0 → processes ≡ getD t 1 0 → Card t cores processes k
+  card e f = record { is-sound = ok .is-sound; all-cores = e; all-processes = f; inside = subst (λ (n : ℕ). k < n) (sym e) (ok .inside) }
+
+-- a sound table has its header
+pub header-there : (t : List ℕ) (f : ℕ) → T (sound t) → f < 8 → f < length t
+header-there t f sure h = let l = length-is t sure in omega arith
