@@ -1,22 +1,25 @@
 -- What the wait and the steps of disabling come to: by a word that the code reads, the words that it writes then.
-use Prim.Native.Nat.{ℕ, _+_, _-_, _≤_, _<_}
+use Prim.Native.Nat.{ℕ, _+_, _-_}
 use mathlib.Core.Path.{_≡_, refl, sym, ap, _∙_, subst}
 use mathlib.Core.Bool.{Bool, true, false}
 use mathlib.Core.List.{List, [], _∷_}
 use mathlib.Core.Option.{Option, none}
-use lib.Dec.{T, eqb, lit<}
+use lib.Dec.{eqb, lit<}
 use lib.ListN.{getD, set}
 use borrow.Author.Tests.{eq-eqb, ne-eqb}
 use Rattle.rules.specs.Lists.{if_then_else_, bit}
 use Rattle.rules.specs.Numbers.{Answer, MOVED, SLEPT, FAULT, yes-with, no-because}
-use Rattle.rules.specs.State.{Stage, wait, disable, lower, finish, doing, Alternation, ChannelWord, nobody, plain, choosing, State, wiring}
-use Rattle.rules.specs.Items.{process-of, channel-of, put, alternation, progress, channel-word}
+use Rattle.rules.specs.State.{wait, disable, lower, finish, doing, Alternation, ChannelWord, nobody, State, wiring}
+use Rattle.rules.specs.Items.{process-of, put, alternation, progress}
 use Rattle.rules.specs.Rule.{Rule, run, becomes, _>>_}
 use Rattle.rules.specs.Steps.{next}
 use Rattle.rules.specs.Choice.{guard, counting, flags, waits, wait-step, disable-next, keep-first, disabled, disable-step, lower-step}
-use Rattle.rules.specs.Packing.{ready-number, of-choice, progress-words, pack, view, word-from, process-at, channel-at}
+use Rattle.rules.specs.Packing.{ready-number, progress-words, pack, view, word-from, process-at, channel-at}
 use Rattle.rules.specs.Soundness.{own-guards, in-list, ready-in-list}
 use Rattle.packing.proofs.Reflect.{three}
+use Rattle.words.specs.Meaning.{meaning}
+use Rattle.words.specs.declared.Holder.{Holder}
+use Rattle.words.specs.declared.Holder.the-variants.{Nobody, Plain, Choosing}
 use Rattle.answers.specs.Four.{four}
 use Rattle.answers.specs.declared.Reply.{Reply}
 use Rattle.parts.specs.Does.{At, Comes, Does}
@@ -24,7 +27,8 @@ use Rattle.parts.specs.Shared.{asleep-table}
 use Rattle.parts.proofs.Card.{stage-valid}
 use Rattle.choice.specs.Read.{word-of, guard-word-at, AtGuard, stage-table, next-table, flags-table, kept-table}
 use Rattle.choice.proofs.Packs.{put-twice, among-kept, state-reads, asleep-packs}
-use Rattle.choice.proofs.Guards.{Chooses, at-chooses, index-reads, ready-reads, count-is, same-guard, other-guard, next-packs, alternation-chooses, ready-chooses, word-chooses}
+use Rattle.choice.proofs.Guards.{Chooses, at-chooses, index-reads, ready-reads, count-is, same-guard, other-guard, next-packs}
+use Rattle.choice.proofs.Guards.{alternation-chooses, ready-chooses, word-chooses}
 use Rattle.choice.proofs.Rules.{clear-flag, set-flag, kept-number, lowered-fault, lowered-on}
 use Rattle.choice.proofs.Stands.{Stands, disabling-stands, guard-among, guard-is, has-guard, found-word}
 
@@ -54,21 +58,25 @@ module _ {t : List ℕ} {cores processes k p : ℕ} {gs : List ℕ} where
     unfolding progress-words
     wait-ready {r} {u} e a b =
         let clear : waiter .not-ready ≡ false = clear-flag (waiter .not-ready) (sym flag-is ∙ e) in
-        subst (λ (y : Bool). Comes (run (waits k p gs waiter y) (view t)) t r u) (sym clear)
-        (a,
-        b ∙ other-guard (alternation-chooses wait-chooses (flags false false (waiter .waiting) waiter) ((0, 0) ∷ []) tt
-        (ap (λ (y : Bool). 0 ∷ bit y ∷ bit (waiter .waiting) ∷ waiter .count ∷ []) clear)) (disable gs 1 none) 17 1 refl .is)
+        subst (λ (y : Bool). Comes (run (waits k p gs waiter y) (view t)) t r u) (sym clear) (
+          a,
+          b ∙ other-guard (alternation-chooses wait-chooses (flags false false (waiter .waiting) waiter) ((0, 0) ∷ []) tt
+              (ap (λ (y : Bool). 0 ∷ bit y ∷ bit (waiter .waiting) ∷ waiter .count ∷ []) clear)) (disable gs 1 none) 17 1 refl .is,
+        )
 
-    -- none is
-    pub wait-asleep : {r : Reply} {u : List ℕ} → (word-of t cores p 3 ≡ 0 → ⊥) → r ≡ four (yes-with (SLEPT p))
-        → u ≡ asleep-table (stage-table (flags-table t cores p 0 0 1) cores p 1 17) cores k p 0 0 → Does (wait-step k p gs) t r u
+    -- none is. The word read is n, the tables on the way are v and w.
+    pub wait-asleep : {r : Reply} {u v w : List ℕ} {n : ℕ} → n ≡ word-of t cores p 3 → (n ≡ 0 → ⊥) → v ≡ flags-table t cores p 0 0 1
+        → w ≡ stage-table v cores p 1 17 → r ≡ four (yes-with (SLEPT p)) → u ≡ asleep-table w cores k p 0 0 → Does (wait-step k p gs) t r u
     unfolding progress-words
-    wait-asleep {r} {u} ne a b =
+    wait-asleep {r} {u} reads ne first second a b =
         let put-flags = alternation-chooses wait-chooses (flags false false true waiter) ((0, 0) ∷ (1, 0) ∷ (2, 1) ∷ []) tt refl in
-        subst (λ (y : Bool). Comes (run (waits k p gs waiter y) (view t)) t r u) (sym (set-flag (waiter .not-ready) (λ e. ne (flag-is ∙ e))))
-        (a,
-        b ∙ asleep-packs (other-guard put-flags (disable gs 1 none) 17 1 refl) p
-        (among-kept (put alternation p (flags false false true waiter) (view t)) p _ (put-flags .among)) k (at .card .inside))
+        let waiting : State = put alternation p (flags false false true waiter) (view t) in
+        let none-ready : waiter .not-ready ≡ true = set-flag (waiter .not-ready) (λ e. ne (reads ∙ flag-is ∙ e)) in
+        subst (λ (y : Bool). Comes (run (waits k p gs waiter y) (view t)) t r u) (sym none-ready) (
+          a,
+          b ∙ ap (λ (l : List ℕ). asleep-table l cores k p 0 0) (second ∙ ap (λ (l : List ℕ). stage-table l cores p 1 17) first)
+              ∙ asleep-packs (other-guard put-flags (disable gs 1 none) 17 1 refl) p (among-kept waiting p _ (put-flags .among)) k (at .card .inside),
+        )
 
   -- Disable
 
@@ -80,43 +88,50 @@ module _ {t : List ℕ} {cores processes k p : ℕ} {gs : List ℕ} where
     pub disable-guard : AtGuard t cores processes p
     disable-guard = has-guard disable-stands
 
-    -- by the word as it is made of the number in the table
-    by-word : (r : Reply) (u : List ℕ) {w : ChannelWord} → word-from (getD t (guard-word-at t cores processes p) 0) ≡ w
-        → Comes (run (disabled p gs i x w) (view t)) t r u → Does (disable-step p gs i x) t r u
-    by-word r u e h = subst (λ (y : ChannelWord). Comes (run (disabled p gs i x y) (view t)) t r u) (sym e ∙ found-word disable-stands) h
+    -- the code has found h in the word, whose number it read as n
+    module _ {found h : Holder} {n : ℕ} (finds : found ≡ h) (reads : n ≡ getD t (guard-word-at t cores processes p) 0)
+        (made : meaning found ≡ word-from n) where
+      by-word : (r : Reply) (u : List ℕ) → Comes (run (disabled p gs i x (meaning h)) (view t)) t r u → Does (disable-step p gs i x) t r u
+      by-word r u =
+          subst (λ (y : ChannelWord). Comes (run (disabled p gs i x y) (view t)) t r u)
+          (sym (ap meaning finds) ∙ made ∙ ap word-from reads ∙ found-word disable-stands)
 
-    pub disable-nobody : {r : Reply} {u : List ℕ} → word-from (getD t (guard-word-at t cores processes p) 0) ≡ nobody
-        → r ≡ four (yes-with MOVED) → u ≡ next-table t cores p 17 19 → Does (disable-step p gs i x) t r u
-    disable-nobody e a b = by-word _ _ e (a, b ∙ disabled-packs (disable-stands .chooses))
+    module _ {found : Holder} {n : ℕ} {r : Reply} {u : List ℕ} where
+      pub disable-nobody : found ≡ Nobody → n ≡ getD t (guard-word-at t cores processes p) 0 → meaning found ≡ word-from n
+          → r ≡ four (yes-with MOVED) → u ≡ next-table t cores p 17 19 → Does (disable-step p gs i x) t r u
+      disable-nobody finds reads made a b = by-word finds reads made r u (a, b ∙ disabled-packs (disable-stands .chooses))
 
-    pub disable-ready : {r : Reply} {u : List ℕ} {q : ℕ} → word-from (getD t (guard-word-at t cores processes p) 0) ≡ plain q
-        → r ≡ four (yes-with MOVED) → u ≡ next-table (kept-table t cores p) cores p 17 19 → Does (disable-step p gs i x) t r u
-    unfolding progress-words
-    disable-ready e a b =
-        let valid = stage-valid t cores processes k p (disable gs i x) at in
-        let ready = three (own-guards (wiring (view t)) p gs) (in-list gs i) (ready-in-list gs x) valid .2 in
-        let kept : (if eqb (word-of t cores p 11) 0 then word-of t cores p 10 else word-of t cores p 11) ≡ ready-number (keep-first x i) =
-            rw (ready-reads (disable-stands .chooses), index-reads (disable-stands .chooses)) (kept-number gs x i ready) in
-        by-word _ _ e
-        (a,
-        b ∙ disabled-packs (ready-chooses (disable-stands .chooses) (disable gs i (keep-first x i)) _ (keep-first x i) kept refl)
-        ∙ ap pack (put-twice (view t) p _ _ (disable-stands .chooses .among)))
+      pub disable-ready : {q : ℕ} → found ≡ Plain q → n ≡ getD t (guard-word-at t cores processes p) 0 → meaning found ≡ word-from n
+          → r ≡ four (yes-with MOVED) → u ≡ next-table (kept-table t cores p) cores p 17 19 → Does (disable-step p gs i x) t r u
+      unfolding progress-words
+      disable-ready finds reads made a b =
+          let valid = stage-valid t cores processes k p (disable gs i x) at in
+          let ready = three (own-guards (wiring (view t)) p gs) (in-list gs i) (ready-in-list gs x) valid .2 in
+          let kept : (if eqb (word-of t cores p 11) 0 then word-of t cores p 10 else word-of t cores p 11) ≡ ready-number (keep-first x i) =
+          rw (ready-reads (disable-stands .chooses), index-reads (disable-stands .chooses)) (kept-number gs x i ready) in
+          by-word finds reads made r u (
+            a,
+            b ∙ disabled-packs (ready-chooses (disable-stands .chooses) (disable gs i (keep-first x i)) _ (keep-first x i) kept refl)
+                ∙ ap pack (put-twice (view t) p _ _ (disable-stands .chooses .among)),
+          )
 
-    pub disable-own : {r : Reply} {u : List ℕ} {q : ℕ} → word-from (getD t (guard-word-at t cores processes p) 0) ≡ choosing q → q ≡ p
-        → r ≡ four (yes-with MOVED) → u ≡ set (set t (guard-word-at t cores processes p) 0) (process-at cores p 6) 18
-        → Does (disable-step p gs i x) t r u
-    unfolding progress-words
-    disable-own {q = q} e own a b =
-        let among = guard-among disable-stands in
-        by-word _ _ e
-        (rw (eq-eqb q p own)
-        (a,
-        b ∙ ap (λ (c : ℕ). set (set t (channel-at cores processes c 2) 0) (process-at cores p 6) 18) (guard-is disable-stands)
-        ∙ same-guard (word-chooses (disable-stands .chooses) (guard gs i) (among .0) (among .1) nobody) (lower gs i x) 18 refl))
+      pub disable-own : {q : ℕ} → found ≡ Choosing q → n ≡ getD t (guard-word-at t cores processes p) 0 → meaning found ≡ word-from n → q ≡ p
+          → r ≡ four (yes-with MOVED) → u ≡ set (set t (guard-word-at t cores processes p) 0) (process-at cores p 6) 18
+          → Does (disable-step p gs i x) t r u
+      unfolding progress-words
+      disable-own {q} finds reads made own a b =
+          let among = guard-among disable-stands in
+          by-word finds reads made r u
+          (rw (eq-eqb q p own) (
+            a,
+            b ∙ ap (λ (c : ℕ). set (set t (channel-at cores processes c 2) 0) (process-at cores p 6) 18) (guard-is disable-stands)
+                ∙ same-guard (word-chooses (disable-stands .chooses) (guard gs i) (among .0) (among .1) nobody) (lower gs i x) 18 refl,
+          ))
 
-    pub disable-other : {r : Reply} {u : List ℕ} {q : ℕ} → word-from (getD t (guard-word-at t cores processes p) 0) ≡ choosing q → (q ≡ p → ⊥)
-        → r ≡ four (yes-with MOVED) → u ≡ next-table t cores p 17 19 → Does (disable-step p gs i x) t r u
-    disable-other {q = q} e other a b = by-word _ _ e (rw (ne-eqb q p other) (a, b ∙ disabled-packs (disable-stands .chooses)))
+      pub disable-other : {q : ℕ} → found ≡ Choosing q → n ≡ getD t (guard-word-at t cores processes p) 0 → meaning found ≡ word-from n
+          → (q ≡ p → ⊥) → r ≡ four (yes-with MOVED) → u ≡ next-table t cores p 17 19 → Does (disable-step p gs i x) t r u
+      disable-other {q} finds reads made other a b =
+          by-word finds reads made r u (rw (ne-eqb q p other) (a, b ∙ disabled-packs (disable-stands .chooses)))
 
   -- Lower
 
@@ -138,7 +153,8 @@ module _ {t : List ℕ} {cores processes k p : ℕ} {gs : List ℕ} where
         → u ≡ next-table (set t (process-at cores p 5) (word-of t cores p 5 - 1)) cores p 17 19 → Does (lower-step p gs i x) t r u
     lower-done {r} {u} ne a b =
         let n = process-of (view t) p .alternation .count in
-        lowered-on (view t) t lowering r u n (λ e. ne (count-is lower-chooses ∙ e))
-        (a,
-        b ∙ disabled-packs (alternation-chooses lower-chooses (counting (n - 1) (process-of (view t) p .alternation))
-        ((3, word-of t cores p 5 - 1) ∷ []) tt (rw (count-is lower-chooses))))
+        lowered-on (view t) t lowering r u n (λ e. ne (count-is lower-chooses ∙ e)) (
+          a,
+          b ∙ disabled-packs (alternation-chooses lower-chooses (counting (n - 1) (process-of (view t) p .alternation))
+              ((3, word-of t cores p 5 - 1) ∷ []) tt (rw (count-is lower-chooses))),
+        )

@@ -3,14 +3,16 @@ use Prim.Native.Nat.{ℕ, _+_, _-_, _≤_, _<_, _^_}
 use mathlib.Core.Path.{_≡_, refl, sym, ap, _∙_, subst}
 use mathlib.Core.Bool.{false}
 use mathlib.Core.List.{List, [], _∷_}
-use mathlib.Core.Option.{Option, none}
+use mathlib.Core.Option.{none}
 use lib.ListN.{getD, set}
 use Rattle.rules.specs.Numbers.{Answer, MOVED, FAULT, yes-with, no-because}
-use Rattle.rules.specs.State.{Stage, enable-look, raise, place-name, ready-from-look, ready-from-place, wait, doing, Alternation, ChannelWord, nobody, plain, choosing, State, wiring}
-use Rattle.rules.specs.Items.{process-of, channel-of, put, alternation, progress, channel-word}
+use Rattle.rules.specs.State.{enable-look, raise, place-name, ready-from-look, ready-from-place, wait, doing, Alternation, ChannelWord, nobody}
+use Rattle.rules.specs.State.{plain, choosing, State}
+use Rattle.rules.specs.Items.{process-of, channel-of, put, alternation, progress}
 use Rattle.rules.specs.Rule.{Rule, run, becomes, _>>_}
 use Rattle.rules.specs.Steps.{next}
-use Rattle.rules.specs.Choice.{guard, counting, flags, enable-next, after-enable-look, enable-look-step, placed, place-step, raise-step, ready-from-look-step, ready-from-place-step}
+use Rattle.rules.specs.Choice.{guard, counting, flags, enable-next, after-enable-look, enable-look-step, placed, place-step, raise-step}
+use Rattle.rules.specs.Choice.{ready-from-look-step, ready-from-place-step}
 use Rattle.rules.specs.Packing.{of-choice, progress-words, pack, view, word-number, process-at, channel-at}
 use Rattle.answers.specs.Four.{four}
 use Rattle.answers.specs.declared.Reply.{Reply}
@@ -51,10 +53,11 @@ module _ {t : List ℕ} {cores processes k p : ℕ} {gs : List ℕ} {i : ℕ} wh
     pub look-held : {r : Reply} {u : List ℕ} → (getD t (guard-word-at t cores processes p) 0 ≡ 0 → ⊥) → r ≡ four (yes-with MOVED)
         → u ≡ set t (process-at cores p 6) 14 → Does (enable-look-step p gs i) t r u
     unfolding progress-words
-    look-held ne a b =
-        (a,
-        b ∙ same-guard (look-stands .chooses) (after-enable-look gs i (channel-of (view t) (guard gs i) .word)) 14
-        (words (channel-of (view t) (guard gs i) .word) (λ e. ne (word-is look-stands ∙ e))))
+    look-held ne a b = (
+      a,
+      b ∙ same-guard (look-stands .chooses) (after-enable-look gs i (channel-of (view t) (guard gs i) .word)) 14
+          (words (channel-of (view t) (guard gs i) .word) (λ e. ne (word-is look-stands ∙ e))),
+    )
       where
         words : (w : ChannelWord) → (word-number w ≡ 0 → ⊥) → progress-words (doing (after-enable-look gs i w)) ≡ of-choice 14 gs i none
         words nobody some = absurd (some refl)
@@ -88,10 +91,12 @@ module _ {t : List ℕ} {cores processes k p : ℕ} {gs : List ℕ} {i : ℕ} wh
         → u ≡ set (set t (process-at cores p 5) (word-of t cores p 5 + 1)) (process-at cores p 6) 13 → Does (raise-step p gs i) t r u
     unfolding progress-words
     raise-done {r} {u} ne a b =
-        raised-on (view t) t raising r u (process-of (view t) p .alternation .count) (λ e. ne (count-is raise-chooses ∙ e))
-        (a,
-        b ∙ same-guard (alternation-chooses raise-chooses (counting (process-of (view t) p .alternation .count + 1) (process-of (view t) p .alternation))
-        ((3, word-of t cores p 5 + 1) ∷ []) tt (rw (count-is raise-chooses))) (place-name gs i) 13 refl)
+        let alt = process-of (view t) p .alternation in
+        raised-on (view t) t raising r u (alt .count) (λ e. ne (count-is raise-chooses ∙ e)) (
+          a,
+          b ∙ same-guard (alternation-chooses raise-chooses (counting (alt .count + 1) alt)
+              ((3, word-of t cores p 5 + 1) ∷ []) tt (rw (count-is raise-chooses))) (place-name gs i) 13 refl,
+        )
 
   -- Place
 
@@ -110,10 +115,12 @@ module _ {t : List ℕ} {cores processes k p : ℕ} {gs : List ℕ} {i : ℕ} wh
     pub place-free : {r : Reply} {u : List ℕ} → getD t (guard-word-at t cores processes p) 0 ≡ 0 → r ≡ four (yes-with MOVED)
         → u ≡ next-table (set t (guard-word-at t cores processes p) (word-number (choosing p))) cores p 11 16 → Does (place-step p gs i) t r u
     place-free {r} {u} e a b =
-        subst (λ (w : ChannelWord). Comes (run (placed p gs i w) (view t)) t r u) (sym (free-word place-stands e))
-        (a,
-        b ∙ ap (λ (c : ℕ). next-table (set t (channel-at cores processes c 2) (word-number (choosing p))) cores p 11 16) (guard-is place-stands)
-        ∙ enabled-packs (word-chooses (place-stands .chooses) (guard gs i) (guard-among place-stands .0) (guard-among place-stands .1) (choosing p)))
+        let among = guard-among place-stands in
+        subst (λ (w : ChannelWord). Comes (run (placed p gs i w) (view t)) t r u) (sym (free-word place-stands e)) (
+          a,
+          b ∙ ap (λ (c : ℕ). next-table (set t (channel-at cores processes c 2) (word-number (choosing p))) cores p 11 16) (guard-is place-stands)
+              ∙ enabled-packs (word-chooses (place-stands .chooses) (guard gs i) (among .0) (among .1) (choosing p)),
+        )
 
     -- it is somebody's
     pub place-held : {r : Reply} {u : List ℕ} → (getD t (guard-word-at t cores processes p) 0 ≡ 0 → ⊥) → r ≡ four (yes-with MOVED)
@@ -163,7 +170,8 @@ module _ {t : List ℕ} {cores processes k p : ℕ} {gs : List ℕ} {i : ℕ} wh
         → u ≡ next-table (set (set t (process-at cores p 3) 0) (process-at cores p 5) (word-of t cores p 5 - 1)) cores p 11 16
         → Does (ready-from-place-step p gs i) t r u
     ready-place-done {r} {u} ne a b =
-        lowered-on (view t) t readying r u (process-of (view t) p .alternation .count) (λ e. ne (count-is ready-place-chooses ∙ e))
-        (a,
-        b ∙ enabled-packs (alternation-chooses ready-place-chooses (readied (process-of (view t) p .alternation .count - 1))
-        ((1, 0) ∷ (3, word-of t cores p 5 - 1) ∷ []) tt (rw (count-is ready-place-chooses))))
+        lowered-on (view t) t readying r u (process-of (view t) p .alternation .count) (λ e. ne (count-is ready-place-chooses ∙ e)) (
+          a,
+          b ∙ enabled-packs (alternation-chooses ready-place-chooses (readied (process-of (view t) p .alternation .count - 1))
+              ((1, 0) ∷ (3, word-of t cores p 5 - 1) ∷ []) tt (rw (count-is ready-place-chooses))),
+        )

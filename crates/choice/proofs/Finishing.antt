@@ -1,21 +1,21 @@
 -- What the end of a choice and the kernel task trigger come to: by a word that the code reads, the words that it writes then.
-use Prim.Native.Nat.{ℕ, zero, suc, _+_, _-_, _≤_, _<_}
+use Prim.Native.Nat.{ℕ, suc, _+_, _-_, _≤_, _<_}
 use mathlib.Core.Path.{_≡_, refl, sym, ap, _∙_, subst}
 use mathlib.Core.Bool.{Bool, true, false, _||_}
 use mathlib.Core.List.{List, [], _∷_}
 use mathlib.Core.Option.{Option}
 use native.Mathlib.Omega.{arith}
 use lib.Dec.{T, eqb, lit<}
-use lib.ListN.{length, getD, set}
+use lib.ListN.{length, set}
 use borrow.Author.Tests.{eq-eqb, ne-eqb}
 use Rattle.rules.specs.Lists.{if_then_else_, bit, within, all, distinct}
 use Rattle.rules.specs.Numbers.{Answer, MOVED, SLEPT, CHOSE, FAULT, yes-with, no-because}
-use Rattle.rules.specs.State.{receiving, finish, chose, due, Alternation, Task, no-task, trigger, wake-up, Work, free, State, wiring}
-use Rattle.rules.specs.Items.{core-of, process-of, put, core, alternation}
+use Rattle.rules.specs.State.{receiving, finish, Alternation, no-task, trigger, wake-up, Work, free, State, wiring}
+use Rattle.rules.specs.Items.{core-of, process-of, put, alternation}
 use Rattle.rules.specs.Rule.{Rule, run, done, the, becomes, _>>=_, _>>_}
-use Rattle.rules.specs.Steps.{has-task, with-work}
+use Rattle.rules.specs.Steps.{has-task}
 use Rattle.rules.specs.Choice.{guard, counting, flags, lowered, finished, finish-step, trigger-step}
-use Rattle.rules.specs.Packing.{work-words, ready-number, progress-words, pack, view, process-at}
+use Rattle.rules.specs.Packing.{work-words, ready-number, progress-words, view, process-at}
 use Rattle.rules.specs.Soundness.{own-end, own-guards, ready-in-list, valid-work}
 use Rattle.packing.proofs.Reflect.{both, three, within-means}
 use Rattle.table.specs.Has.{HasProcess}
@@ -25,7 +25,8 @@ use Rattle.parts.specs.Does.{Card, At, Comes, Does}
 use Rattle.parts.specs.Shared.{task-table, asleep-table, cleared, due-table}
 use Rattle.parts.proofs.Card.{facts, cores-are, card-process, stage-valid, runs-process}
 use Rattle.choice.specs.Read.{word-of, triggered-table}
-use Rattle.choice.proofs.Packs.{Packs, Among, card-packs, among-kept, state-reads, alternation-packs, task-packs, cleared-packs, due-packs, asleep-packs}
+use Rattle.choice.proofs.Packs.{Among, card-packs, among-kept, state-reads, alternation-packs, task-packs, cleared-packs, due-packs}
+use Rattle.choice.proofs.Packs.{asleep-packs}
 use Rattle.choice.proofs.Guards.{Chooses, at-chooses, ready-reads, guard-reads, count-is, alternation-chooses}
 use Rattle.choice.proofs.Rules.{ready-range, first-fault, first-on, lowered-fault, lowered-on, set-flag, unset-flag}
 
@@ -118,24 +119,25 @@ module _ {t : List ℕ} {cores processes k p : ℕ} {gs : List ℕ} {x : Option 
         (sym left)
         (a ∙ ap (λ (c : ℕ). four (yes-with (CHOSE p c))) (chosen there), b ∙ cleared-packs (finish-lowered .packs) p (finish-lowered .among) .is))
 
-    -- above 0: it sleeps. The words read are i and m, the tables on the way v and w.
-    pub finish-later : {r : Reply} {u v w : List ℕ} {i m c : ℕ} → (word-of t cores p 5 ≡ 0 → ⊥) → (word-of t cores p 5 ≡ 1 → ⊥)
-        → i ≡ word-of t cores p 11 → m ≡ word-of t cores p 5 → c ≡ word-of t cores p (11 + i)
-        → v ≡ set t (process-at cores p 5) (m - 1) → w ≡ due-table v cores p 23 c → r ≡ four (yes-with (SLEPT p))
-        → u ≡ asleep-table w cores k p 0 0 → Does (finish-step k p gs x) t r u
-    finish-later {r} {u} {v} {w} {i} {m} {c} ne more ready read found first second a b =
-        let count = count-is finish-chooses in
-        let left : finisher .count - 1 ≡ suc (finisher .count - 2) = omega arith in
-        let g : ℕ = guard gs (ready-number x) in
-        let due-there : w ≡ due-table (set t (process-at cores p 5) (word-of t cores p 5 - 1)) cores p 23 g =
-            let e : c ≡ g = found ∙ ap (λ (j : ℕ). word-of t cores p (11 + j)) ready ∙ chosen there in
-            rw (second, first, read, e) in
-        ended r u ne
-        (subst (λ (n : ℕ). Comes (run (finished k p g n) less) t r u) (sym left)
-        (a,
+  -- above 0: it sleeps. The words read are i and m, the tables on the way v and w.
+  pub finish-later : {r : Reply} {u v w : List ℕ} {i m c : ℕ} → i ≡ word-of t cores p 11 → m ≡ word-of t cores p 5
+      → (i ≡ 0 → ⊥) → (m ≡ 0 → ⊥) → (m ≡ 1 → ⊥) → c ≡ word-of t cores p (11 + i) → v ≡ set t (process-at cores p 5) (m - 1)
+      → w ≡ due-table v cores p 23 c → r ≡ four (yes-with (SLEPT p)) → u ≡ asleep-table w cores k p 0 0 → Does (finish-step k p gs x) t r u
+  finish-later {r} {u} {v} {w} {i} {m} {c} ready read there ne more found first second a b =
+      let is-ready : word-of t cores p 11 ≡ 0 → ⊥ = λ e. there (ready ∙ e) in
+      let lower = finish-lowered is-ready in
+      let count = count-is finish-chooses in
+      let left : finisher .count - 1 ≡ suc (finisher .count - 2) = omega arith in
+      let g : ℕ = guard gs (ready-number x) in
+      let due-there : w ≡ due-table (set t (process-at cores p 5) (word-of t cores p 5 - 1)) cores p 23 g =
+      let e : c ≡ g = found ∙ ap (λ (j : ℕ). word-of t cores p (11 + j)) ready ∙ chosen is-ready in
+      rw (second, first, read, e) in
+      ended is-ready r u (λ e. ne (read ∙ e))
+      (subst (λ (n : ℕ). Comes (run (finished k p g n) less) t r u) (sym left) (
+        a,
         b ∙ ap (λ (l : List ℕ). asleep-table l cores k p 0 0) due-there
-        ∙ asleep-packs (due-packs (finish-lowered .packs) p (finish-lowered .among) g) p
-        (among-kept less p _ (finish-lowered .among)) k (at .card .inside)))
+            ∙ asleep-packs (due-packs (lower .packs) p (lower .among) g) p (among-kept less p _ (lower .among)) k (at .card .inside),
+      ))
 
 -- Trigger
 
@@ -176,11 +178,12 @@ module _ {t : List ℕ} {cores processes k q : ℕ} (card : Card t cores process
       → Does (trigger-step k q) t r u
   trigger-done r u task p words ne a b =
       let n = triggered .count - 1 in
-      lowered-on (view t) t triggering r u (triggered .count) (λ e. ne (trigger-count ∙ e))
-      (a,
-      b ∙ task-packs (alternation-packs (card-packs card) q trigger-among (flags (triggered .enabling) false false (counting n triggered))
-      ((1, 0) ∷ (2, 0) ∷ (3, word-of t cores q 5 - 1) ∷ []) tt (rw trigger-count)) k (card .inside)
-      (if triggered .waiting || eqb n 0 then wake-up q else no-task) task p words .is)
+      lowered-on (view t) t triggering r u (triggered .count) (λ e. ne (trigger-count ∙ e)) (
+        a,
+        b ∙ task-packs (alternation-packs (card-packs card) q trigger-among (flags (triggered .enabling) false false (counting n triggered))
+            ((1, 0) ∷ (2, 0) ∷ (3, word-of t cores q 5 - 1) ∷ []) tt (rw trigger-count)) k (card .inside)
+            (if triggered .waiting || eqb n 0 then wake-up q else no-task) task p words .is,
+      )
 
   -- waiting had been set
   pub trigger-waited : {r : Reply} {u : List ℕ} → word-of t cores q 4 ≡ 1 → (word-of t cores q 5 ≡ 0 → ⊥) → r ≡ four (yes-with MOVED)

@@ -1,6 +1,6 @@
 -- A table in which a process is at a stage of a choice: its words, its guards, and what it packs after the process goes on.
 use Prim.Native.Nat.{ℕ, zero, suc, _+_, _≤_, _<_}
-use mathlib.Core.Path.{_≡_, refl, sym, ap, _∙_, subst}
+use mathlib.Core.Path.{_≡_, refl, sym, ap, _∙_}
 use mathlib.Core.Bool.{Bool, true, false}
 use mathlib.Core.List.{List, [], _∷_}
 use mathlib.Core.Option.{Option}
@@ -8,7 +8,7 @@ use native.Mathlib.Omega.{arith}
 use native.Mathlib.Nat.{zero-add}
 use lib.Dec.{T, ltb, lit<}
 use lib.ListN.{length, getD, set}
-use Rattle.rules.specs.Lists.{if_then_else_, nth, within, all, distinct}
+use Rattle.rules.specs.Lists.{if_then_else_, within, all, distinct}
 use Rattle.rules.specs.State.{receiving, Stage, doing, Process, Alternation, ChannelWord, State, wiring}
 use Rattle.rules.specs.Items.{process-of, no-process, put, alternation, progress, channel-word}
 use Rattle.rules.specs.Choice.{guard}
@@ -16,13 +16,14 @@ use Rattle.rules.specs.Packing.{ready-number, padded, of-choice, progress-words
 use Rattle.rules.specs.Soundness.{own-end, own-guards}
 use Rattle.packing.proofs.Focus.{writes, below}
 use Rattle.packing.proofs.Blocks.{second-part}
-use Rattle.packing.proofs.Reflect.{three, within-means, all-at}
+use Rattle.packing.proofs.Reflect.{three, all-at}
 use Rattle.packing.proofs.ReadLaws.{alternation-words, padded-listed, getD-tabulate}
 use Rattle.packing.proofs.WriteLaws.{nth-set-same}
 use Rattle.parts.specs.Does.{At}
 use Rattle.parts.proofs.Card.{own-end-range, runs-range}
-use Rattle.choice.specs.Read.{word-of, index-at, stage-table, next-table}
-use Rattle.choice.proofs.Packs.{Packs, Among, card-packs, put-twice, progress-kept, among-kept, progress-reads, state-reads, alternation-packs, progress-packs, word-packs}
+use Rattle.choice.specs.Read.{word-of, stage-table, next-table}
+use Rattle.choice.proofs.Packs.{Packs, Among, card-packs, progress-kept, among-kept, progress-reads, state-reads, alternation-packs}
+use Rattle.choice.proofs.Packs.{progress-packs, word-packs}
 
 -- The table packs s, and process p is at a stage of a choice with this number, these guards, this index and first ready guard.
 pub record Chooses (t : List ℕ) (cores processes : ℕ) (s : State) (p n : ℕ) (gs : List ℕ) (i : ℕ) (r : Option ℕ) : Type 0 where

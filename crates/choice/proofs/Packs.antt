@@ -3,19 +3,19 @@ use Prim.Native.Nat.{ℕ, zero, suc, _+_, _*_, _-_, _≤_, _<_}
 use mathlib.Core.Path.{_≡_, refl, sym, ap, _∙_, subst}
 use mathlib.Core.List.{List, [], _∷_, _++_}
 use native.Mathlib.Omega.{arith}
-use native.Mathlib.Numerals.{add-one}
 use lib.Dec.{T, lit<}
 use lib.ListN.{length, getD, set, length-set, replicate}
 use lib.Seq.{sets, set-set, getD-set-same}
-use Rattle.rules.specs.Lists.{tabulate, set-nth}
+use Rattle.rules.specs.Lists.{tabulate}
 use Rattle.rules.specs.State.{asleep, Alternation, Progress, nothing, due, chose, Process, Task, no-task, free, ChannelWord, State}
 use Rattle.rules.specs.Items.{core-of, process-of, channel-of, no-process, put, core, place, alternation, progress, channel-word}
 use Rattle.rules.specs.Steps.{with-work}
-use Rattle.rules.specs.Packing.{word-number, work-words, progress-words, pack, view, core-at, process-at, channel-at}
+use Rattle.rules.specs.Packing.{word-number, work-words, progress-words, pack, view, process-at, channel-at}
 use Rattle.packing.proofs.Focus.{writes, below}
 use Rattle.packing.proofs.ReadLaws.{alternation-words, after-work, listed, process-list, read-process, read-channel, read-progress}
 use Rattle.packing.proofs.States.{with-process, length-set-nth}
-use Rattle.packing.proofs.WriteLaws.{nth-set-same, put-place, put-alternation, put-progress, on-listed, put-channel-word, put-core}
+use Rattle.packing.proofs.WriteLaws.{nth-set-same, put-place, put-alternation, put-progress, on-listed}
+use Rattle.packing.proofs.WriteLaws.{put-channel-word, put-core}
 use Rattle.parts.specs.Shared.{task-table, asleep-table, cleared, due-table}
 use Rattle.parts.specs.Does.{Card}
 use Rattle.parts.proofs.Card.{packed, cores-are, processes-are}

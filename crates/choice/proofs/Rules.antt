@@ -1,6 +1,6 @@
 -- What a rule comes to that reads a count or a channel word, by the number in the table.
 use Prim.Native.Nat.{ℕ, zero, suc, _+_, _-_, _≤_}
-use mathlib.Core.Path.{_≡_, refl, sym, ap, _∙_, subst}
+use mathlib.Core.Path.{_≡_, refl, subst}
 use mathlib.Core.Bool.{Bool, true, false}
 use mathlib.Core.List.{List}
 use mathlib.Core.Option.{Option, none, some}
@@ -13,11 +13,9 @@ use Rattle.rules.specs.Numbers.{Answer, FAULT, no-because}
 use Rattle.rules.specs.State.{ChannelWord, nobody, plain, choosing, State, Wiring}
 use Rattle.rules.specs.Rule.{Rule, run, _>>=_}
 use Rattle.rules.specs.Choice.{guard, lowered, raised, keep-first, first-ready}
-use Rattle.rules.specs.Packing.{word-number, word-from, ready-number}
+use Rattle.rules.specs.Packing.{word-number, ready-number}
 use Rattle.rules.specs.Soundness.{ready-in-list, valid-word}
 use Rattle.packing.proofs.Reflect.{within-means, not-zero}
-use Rattle.words.specs.Meaning.{meaning}
-use Rattle.words.specs.declared.Holder.{Holder}
 use Rattle.answers.specs.Four.{four}
 use Rattle.answers.specs.declared.Reply.{Reply}
 use Rattle.parts.specs.Does.{Comes}
@@ -27,10 +25,6 @@ pub word-nobody : (w : Wiring) (x : ChannelWord) → T (valid-word w x) → word
 word-nobody w nobody h e = refl
 word-nobody w (plain q) h e = let range = within-means 1 (w .N) q h in absurd (omega arith)
 word-nobody w (choosing q) h e = absurd (omega arith)
-
--- what code made of the number of a word, where it found h in it
-pub seen : {found h : Holder} {n m : ℕ} → found ≡ h → n ≡ m → meaning found ≡ word-from n → word-from m ≡ meaning h
-seen e same made = sym (ap word-from same) ∙ sym made ∙ ap meaning e
 
 -- a flag of number 0 is clear, and any other is set
 pub clear-flag : (b : Bool) → bit b ≡ 0 → b ≡ false

@@ -15,12 +15,20 @@ use Rattle.rules.specs.Soundness.{own-end, own-guards, in-list, ready-in-list, 
 use Rattle.packing.proofs.Reflect.{both, three, within-means}
 use Rattle.packing.proofs.ViewChannel.{word-back}
 use Rattle.parts.specs.Does.{Card, At}
-use Rattle.parts.proofs.Card.{facts, card-process, card-channel}
-use Rattle.table.specs.Has.{HasProcess, HasChannel}
+use Rattle.parts.proofs.Card.{facts, card-core, card-process, card-channel, runs-process}
+use Rattle.table.specs.Has.{HasCore, HasProcess, HasChannel}
 use Rattle.choice.specs.Read.{word-of, guard-at, guard-word-at, AtGuard}
 use Rattle.choice.proofs.Packs.{word-reads}
 use Rattle.choice.proofs.Rules.{word-nobody}
 use Rattle.choice.proofs.Guards.{Chooses, at-chooses, guard-range, index-reads, guard-reads}
+
+-- The table has the words of the process that runs, and of its core.
+module _ {t : List ℕ} {cores processes k p : ℕ} {x : Stage} (at : At t cores processes k p x) where
+  pub at-process : HasProcess t cores p
+  at-process = runs-process t cores processes k p x at
+
+  pub at-core : HasCore t k
+  at-core = card-core t cores processes k (at .card)
 
 -- process p is at the guard of index i, in a stage of this number with these guards and this first ready guard
 pub record Stands (t : List ℕ) (cores processes k p n : ℕ) (gs : List ℕ) (i : ℕ) (r : Option ℕ) : Type 0 where

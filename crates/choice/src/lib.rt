@@ -1,16 +1,16 @@
 // The steps of choosing (document 01; 000, section 4.1), for the process p that runs on core k, and the kernel task trigger.
 ghost use mathlib.Core.Path.{_≡_};
-ghost use Prim.Native.Nat.{ℕ, _+_, _*_, _-_, _≤_, _<_};
+ghost use Prim.Native.Nat.{_+_, _≤_, _<_};
 ghost use lib.Dec.{eqb};
 ghost use lib.ListN.{length, getD, set};
 ghost use Rattle.rules.specs.Lists.{if_then_else_};
-ghost use Rattle.rules.specs.Numbers.{MOVED, SLEPT, yes-with};
+ghost use Rattle.rules.specs.Numbers.{MOVED, yes-with};
 ghost use Rattle.rules.specs.State.{enable-look, raise, place-name, ready-from-look, ready-from-place, wait, disable, lower, finish};
 ghost use Rattle.rules.specs.State.{trigger, free};
 ghost use Rattle.rules.specs.Items.{core-of};
 ghost use Rattle.rules.specs.Choice.{enable-look-step, raise-step, place-step, ready-from-look-step, ready-from-place-step, wait-step};
 ghost use Rattle.rules.specs.Choice.{disable-step, lower-step, finish-step, trigger-step};
-ghost use Rattle.rules.specs.Packing.{process-at, channel-at, view};
+ghost use Rattle.rules.specs.Packing.{process-at, view};
 ghost use Rattle.answers.specs.Four.{four};
 ghost use Rattle.table.specs.Has.{HasCore, HasProcess};
 ghost use Rattle.parts.specs.Shared.{task-table};
@@ -93,10 +93,8 @@ fn next_guard(t: &mut [u32], cores: usize, p: u32, again: u32, after: u32) -> Re
 // Enabling, look: word 0: next raise; otherwise next ready.
 pub fn enable_look(t: &mut [u32], cores: usize, processes: usize, k: usize, p: u32) -> Reply
     requires { ⌜ At (now t) cores processes k p (enable-look (guards-at (now t) cores p) (index-at (now t) cores p)) ⌝ }
-    ensures {
-        λ r. ⌜ Does (enable-look-step p (guards-at (now (t .entry)) cores p) (index-at (now (t .entry)) cores p))
-            (now (t .entry)) r (now (t .exit)) ⌝
-    }
+    ensures { λ r. ⌜ Does (enable-look-step p (guards-at (now (t .entry)) cores p) (index-at (now (t .entry)) cores p))
+        (now (t .entry)) r (now (t .exit)) ⌝ }
 {
     if guard_word(t, cores, processes, p) == 0 {
         parts::move_on(t, cores, p, 12)
@@ -108,10 +106,8 @@ pub fn enable_look(t: &mut [u32], cores: usize, processes: usize, k: usize, p: u
 // Raise: count + 1.
 pub fn raise_count(t: &mut [u32], cores: usize, processes: usize, k: usize, p: u32) -> Reply
     requires { ⌜ At (now t) cores processes k p (raise (guards-at (now t) cores p) (index-at (now t) cores p)) ⌝ }
-    ensures {
-        λ r. ⌜ Does (raise-step p (guards-at (now (t .entry)) cores p) (index-at (now (t .entry)) cores p))
-            (now (t .entry)) r (now (t .exit)) ⌝
-    }
+    ensures { λ r. ⌜ Does (raise-step p (guards-at (now (t .entry)) cores p) (index-at (now (t .entry)) cores p))
+        (now (t .entry)) r (now (t .exit)) ⌝ }
 {
     let count = table::process_word(t, cores, p, 5);
     if count == 9 {
@@ -124,10 +120,8 @@ pub fn raise_count(t: &mut [u32], cores: usize, processes: usize, k: usize, p: u
 // Place: if the word is still 0 it becomes one's name with the low bit set; otherwise next ready.
 pub fn place_name(t: &mut [u32], cores: usize, processes: usize, k: usize, p: u32) -> Reply
     requires { ⌜ At (now t) cores processes k p (place-name (guards-at (now t) cores p) (index-at (now t) cores p)) ⌝ }
-    ensures {
-        λ r. ⌜ Does (place-step p (guards-at (now (t .entry)) cores p) (index-at (now (t .entry)) cores p))
-            (now (t .entry)) r (now (t .exit)) ⌝
-    }
+    ensures { λ r. ⌜ Does (place-step p (guards-at (now (t .entry)) cores p) (index-at (now (t .entry)) cores p))
+        (now (t .entry)) r (now (t .exit)) ⌝ }
 {
     if guard_word(t, cores, processes, p) == 0 {
         set_guard_word(t, cores, processes, p, words::choosing_name(p));
@@ -140,10 +134,8 @@ pub fn place_name(t: &mut [u32], cores: usize, processes: usize, k: usize, p: u3
 // Ready, from look: clear not-ready.
 pub fn ready_from_look(t: &mut [u32], cores: usize, processes: usize, k: usize, p: u32) -> Reply
     requires { ⌜ At (now t) cores processes k p (ready-from-look (guards-at (now t) cores p) (index-at (now t) cores p)) ⌝ }
-    ensures {
-        λ r. ⌜ Does (ready-from-look-step p (guards-at (now (t .entry)) cores p) (index-at (now (t .entry)) cores p))
-            (now (t .entry)) r (now (t .exit)) ⌝
-    }
+    ensures { λ r. ⌜ Does (ready-from-look-step p (guards-at (now (t .entry)) cores p) (index-at (now (t .entry)) cores p))
+        (now (t .entry)) r (now (t .exit)) ⌝ }
 {
     table::set_process_word(t, cores, p, 3, 0);
     next_guard(t, cores, p, 11, 16)
@@ -152,10 +144,8 @@ pub fn ready_from_look(t: &mut [u32], cores: usize, processes: usize, k: usize, 
 // Ready, from place: clear not-ready, and count - 1.
 pub fn ready_from_place(t: &mut [u32], cores: usize, processes: usize, k: usize, p: u32) -> Reply
     requires { ⌜ At (now t) cores processes k p (ready-from-place (guards-at (now t) cores p) (index-at (now t) cores p)) ⌝ }
-    ensures {
-        λ r. ⌜ Does (ready-from-place-step p (guards-at (now (t .entry)) cores p) (index-at (now (t .entry)) cores p))
-            (now (t .entry)) r (now (t .exit)) ⌝
-    }
+    ensures { λ r. ⌜ Does (ready-from-place-step p (guards-at (now (t .entry)) cores p) (index-at (now (t .entry)) cores p))
+        (now (t .entry)) r (now (t .exit)) ⌝ }
 {
     let count = table::process_word(t, cores, p, 5);
     if count == 0 {
@@ -196,11 +186,7 @@ pub fn wait_for(t: &mut [u32], cores: usize, processes: usize, k: usize, p: u32)
 fn first_ready(kept: u32, i: u32) -> u32
     ensures { λ r. ⌜ r ≡ (if eqb kept 0 then i else kept) ⌝ }
 {
-    if kept == 0 {
-        i
-    } else {
-        kept
-    }
+    if kept == 0 { i } else { kept }
 }
 
 // The guard is ready: the first such is kept. Then the next guard, or what comes after the last.
@@ -217,13 +203,10 @@ fn goes_on_ready(t: &mut [u32], cores: usize, p: u32, again: u32, after: u32) ->
 
 // Disable: one's own name becomes 0, next lower; a process's plain name: the guard is ready, the first such is kept; otherwise not.
 pub fn disable_guard(t: &mut [u32], cores: usize, processes: usize, k: usize, p: u32) -> Reply
-    requires {
-        ⌜ At (now t) cores processes k p (disable (guards-at (now t) cores p) (index-at (now t) cores p) (ready-at (now t) cores p)) ⌝
-    }
-    ensures {
-        λ r. ⌜ Does (disable-step p (guards-at (now (t .entry)) cores p) (index-at (now (t .entry)) cores p) (ready-at (now (t .entry)) cores p))
-            (now (t .entry)) r (now (t .exit)) ⌝
-    }
+    requires { ⌜ At (now t) cores processes k p (disable (guards-at (now t) cores p) (index-at (now t) cores p) (ready-at (now t) cores p)) ⌝ }
+    ensures { λ r. ⌜ Does
+        (disable-step p (guards-at (now (t .entry)) cores p) (index-at (now (t .entry)) cores p) (ready-at (now (t .entry)) cores p))
+        (now (t .entry)) r (now (t .exit)) ⌝ }
 {
     let found = words::who_stands(guard_word(t, cores, processes, p));
     match found {
@@ -242,13 +225,9 @@ pub fn disable_guard(t: &mut [u32], cores: usize, processes: usize, k: usize, p:
 
 // Lower: count - 1.
 pub fn lower_count(t: &mut [u32], cores: usize, processes: usize, k: usize, p: u32) -> Reply
-    requires {
-        ⌜ At (now t) cores processes k p (lower (guards-at (now t) cores p) (index-at (now t) cores p) (ready-at (now t) cores p)) ⌝
-    }
-    ensures {
-        λ r. ⌜ Does (lower-step p (guards-at (now (t .entry)) cores p) (index-at (now (t .entry)) cores p) (ready-at (now (t .entry)) cores p))
-            (now (t .entry)) r (now (t .exit)) ⌝
-    }
+    requires { ⌜ At (now t) cores processes k p (lower (guards-at (now t) cores p) (index-at (now t) cores p) (ready-at (now t) cores p)) ⌝ }
+    ensures { λ r. ⌜ Does (lower-step p (guards-at (now (t .entry)) cores p) (index-at (now (t .entry)) cores p) (ready-at (now (t .entry)) cores p))
+        (now (t .entry)) r (now (t .exit)) ⌝ }
 {
     let count = table::process_word(t, cores, p, 5);
     if count == 0 {
@@ -264,10 +243,8 @@ const NONE_READY: u32 = answers::FAULT;
 // Finish: no ready guard is a fault; count - 1; at 0 CHOSE with the first ready guard; above 0 asleep, with CHOSE due.
 pub fn finish_choice(t: &mut [u32], cores: usize, processes: usize, k: usize, p: u32) -> Reply
     requires { ⌜ At (now t) cores processes k p (finish (guards-at (now t) cores p) (ready-at (now t) cores p)) ⌝ }
-    ensures {
-        λ r. ⌜ Does (finish-step k p (guards-at (now (t .entry)) cores p) (ready-at (now (t .entry)) cores p))
-            (now (t .entry)) r (now (t .exit)) ⌝
-    }
+    ensures { λ r. ⌜ Does (finish-step k p (guards-at (now (t .entry)) cores p) (ready-at (now (t .entry)) cores p))
+        (now (t .entry)) r (now (t .exit)) ⌝ }
 {
     let ready = table::process_word(t, cores, p, 11);
     if ready == 0 {

@@ -1,4 +1,3 @@
-pub mod Seen
 pub mod Idle
 pub mod Known
 pub mod Take

@@ -1,6 +1,6 @@
 use native.Mathlib.Omega.{arith}
 use Rattle.choice.proofs.Enabling.{look-guard, look-free, look-held}
-use Rattle.parts.proofs.Card.{runs-process}
+use Rattle.choice.proofs.Stands.{at-process}
 use borrow.Author.Needs.{needs}
 use Rattle.choice.proofs.enable_look.Statement.{statement}
 use Rattle.choice.proofs.enable_look.Tie as tie
@@ -9,26 +9,26 @@ guard-word-requires : tie.Need-guard-word-requires
 guard-word-requires c κs = search (needs, look-guard)
 
 move-on-requires : tie.Need-move-on-requires
-move-on-requires c κs = search (needs, runs-process)
+move-on-requires c κs = search (needs, at-process)
 
 move-on-requires-2 : tie.Need-move-on-requires-2
-move-on-requires-2 c κs = search (needs, runs-process)
+move-on-requires-2 c κs = search (needs, at-process)
 
 same-length : tie.Need-same-length
 same-length c = search needs
 
 returns : tie.Need-returns
 returns c =
-    let at = c .before .before .before .before .before .before .before .before .pre in
-    look-free at (omega arith) (c .before .before .move-on .ensures .1) (c .before .before .move-on .ensures .0)
+    let went = c .before .before in
+    look-free (went .before .before .before .before .before .before .pre) (omega arith) (went .move-on .ensures .1) (went .move-on .ensures .0)
 
 same-length-2 : tie.Need-same-length-2
 same-length-2 c = search needs
 
 returns-2 : tie.Need-returns-2
 returns-2 c =
-    let at = c .before .before .before .before .before .before .before .before .pre in
-    look-held at (λ e. omega arith) (c .before .before .move-on2 .ensures .1) (c .before .before .move-on2 .ensures .0)
+    let went = c .before .before in
+    look-held (went .before .before .before .before .before .before .pre) (λ e. omega arith) (went .move-on2 .ensures .1) (went .move-on2 .ensures .0)
 
 pub enable-look-spec : {M : Type 1} → statement M
 enable-look-spec =

@@ -1,12 +1,14 @@
 use native.Mathlib.Omega.{arith}
-use Rattle.parts.proofs.Card.{card-core, runs-process}
+use Rattle.choice.proofs.Stands.{at-process, at-core}
 use Rattle.choice.proofs.Finishing.{finish-guard, finish-none, finish-fault, finish-now, finish-later}
 use borrow.Author.Needs.{needs}
 use Rattle.choice.proofs.finish_choice.Statement.{statement}
 use Rattle.choice.proofs.finish_choice.Tie as tie
 
 process-word-requires : tie.Need-process-word-requires
-process-word-requires c κs = let h = runs-process _ _ _ _ _ _ (c .before .before .pre) in omega arith
+process-word-requires c κs =
+    let h = at-process (c .before .before .pre) in
+    omega arith
 
 refused-requires : tie.Need-refused-requires
 refused-requires c κs = search needs
@@ -18,7 +20,9 @@ returns : tie.Need-returns
 returns c = finish-none (c .before .before .before .before .before .pre) (omega arith) (c .refused .ensures) (cc)
 
 process-word-requires-2 : tie.Need-process-word-requires-2
-process-word-requires-2 c κs = let h = runs-process _ _ _ _ _ _ (c .before .before .before .before .before .pre) in omega arith
+process-word-requires-2 c κs =
+    let h = at-process (c .before .before .before .before .before .pre) in
+    omega arith
 
 refused-requires-2 : tie.Need-refused-requires-2
 refused-requires-2 c κs = search needs
@@ -27,12 +31,14 @@ same-length-2 : tie.Need-same-length-2
 same-length-2 c = search needs
 
 returns-2 : tie.Need-returns-2
-returns-2 c = finish-fault (c .before .before .before .before .before .before .before .before .pre) (λ e. omega arith) (omega arith) (c .refused2 .ensures) (cc)
+returns-2 c =
+    let at = c .before .before .before .before .before .before .before .before .pre in
+    finish-fault at (λ e. omega arith) (omega arith) (c .refused2 .ensures) (cc)
 
 guard-requires : tie.Need-guard-requires
 guard-requires c κs =
     let at = c .before .before .before .before .before .before .before .before .pre in
-    let process = runs-process _ _ _ _ _ _ at in
+    let process = at-process at in
     let inside = finish-guard at (λ e. omega arith) in
     omega arith
 
@@ -40,35 +46,52 @@ sub-set-process-word : tie.Need-sub-set-process-word
 sub-set-process-word c = search needs
 
 set-process-word-requires : tie.Need-set-process-word-requires
-set-process-word-requires c κs = let h = runs-process _ _ _ _ _ _ (c .before .before .before .before .before .before .before .before .before .before .pre) in omega arith
+set-process-word-requires c κs =
+    let h = at-process (c .before .before .before .before .before .before .before .before .before .before .pre) in
+    omega arith
 
 reports-requires : tie.Need-reports-requires
-reports-requires c κs = let h = runs-process _ _ _ _ _ _ (c .before .before .before .before .before .before .before .before .before .before .before .before .before .before .before .pre) in omega arith
+reports-requires c κs =
+    let before = c .before .before .before .before .before .before .before .before .before in
+    let h = at-process (before .before .before .before .before .before .before .pre) in
+    omega arith
 
 set-due-requires : tie.Need-set-due-requires
-set-due-requires c κs = let h = runs-process _ _ _ _ _ _ (c .before .before .before .before .before .before .before .before .before .before .before .before .before .before .before .pre) in omega arith
+set-due-requires c κs =
+    let before = c .before .before .before .before .before .before .before .before .before in
+    let h = at-process (before .before .before .before .before .before .before .pre) in
+    omega arith
 
 falls-asleep-requires : tie.Need-falls-asleep-requires
 falls-asleep-requires c κs =
-    let at = c .before .before .before .before .before .before .before .before .before .before .before .before .before .before .before .before .before .before .before .pre in
-    let process = runs-process _ _ _ _ _ _ at in
-    let core = card-core _ _ _ _ (at .card) in
+    let before = c .before .before .before .before .before .before .before .before .before .before in
+    let at = before .before .before .before .before .before .before .before .before .before .pre in
+    let process = at-process at in
+    let core = at-core at in
     (omega arith, omega arith)
 
 same-length-3 : tie.Need-same-length-3
 same-length-3 c = search needs
 
 returns-3 : tie.Need-returns-3
-returns-3 c = finish-now (c .before .before .before .before .before .before .before .before .before .before .before .before .before .before .before .before .before .before .pre) (λ e. omega arith) (omega arith) (cc) (cc)
+returns-3 c =
+    let before = c .before .before .before .before .before .before .before .before .before .before in
+    finish-now (before .before .before .before .before .before .before .before .before .pre) (λ e. omega arith) (omega arith) (cc) (cc)
 
 same-length-4 : tie.Need-same-length-4
 same-length-4 c = search needs
 
 returns-4 : tie.Need-returns-4
 returns-4 c =
-    finish-later (c .before .before .before .before .before .before .before .before .before .before .before .before .before .before .before .before .before .before .before .before .before .before .pre) (λ e. omega arith) (λ e. omega arith) (λ e. omega arith)
-    (c .before .before .before .before .before .before .before .before .before .before .before .before .before .before .before .before .before .before .before .process-word .ensures) (c .before .before .before .before .before .before .before .before .before .before .before .before .before .before .before .before .process-word2 .ensures) (c .before .before .before .before .before .before .before .before .before .before .before .before .before .guard .ensures) (c .before .before .before .before .before .before .before .before .before .before .before .set-process-word .ensures)
-    (c .before .before .before .before .before .before .set-due .ensures) (c .before .before .falls-asleep .ensures .1) (c .before .before .falls-asleep .ensures .0)
+    let slept = c .before .before in
+    let counted = slept .before .before .before .before .before .before .before .before .before in
+    let found = counted .before .before in
+    let read = found .before .before .before in
+    let ready = read .before .before .before in
+    finish-later (ready .before .before .before .pre) (ready .process-word .ensures) (read .process-word2 .ensures)
+    (read .before .before .if1 .left) (found .before .before .if2 .left) (slept .before .before .before .before .before .before .if3 .left)
+    (found .guard .ensures) (counted .set-process-word .ensures)
+    (slept .before .before .before .before .set-due .ensures) (slept .falls-asleep .ensures .1) (slept .falls-asleep .ensures .0)
 
 pub finish-choice-spec : {M : Type 1} → statement M
 finish-choice-spec =

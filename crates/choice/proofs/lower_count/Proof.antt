@@ -1,13 +1,14 @@
--- The count decides, as in the rule.
 use native.Mathlib.Omega.{arith}
-use Rattle.parts.proofs.Card.{runs-process}
+use Rattle.choice.proofs.Stands.{at-process}
 use Rattle.choice.proofs.Disabling.{lower-fault, lower-done}
 use borrow.Author.Needs.{needs}
 use Rattle.choice.proofs.lower_count.Statement.{statement}
 use Rattle.choice.proofs.lower_count.Tie as tie
 
 process-word-requires : tie.Need-process-word-requires
-process-word-requires c κs = let h = runs-process _ _ _ _ _ _ (c .before .before .pre) in omega arith
+process-word-requires c κs =
+    let h = at-process (c .before .before .pre) in
+    omega arith
 
 refused-requires : tie.Need-refused-requires
 refused-requires c κs = search needs
@@ -22,16 +23,23 @@ sub-set-process-word : tie.Need-sub-set-process-word
 sub-set-process-word c = search needs
 
 set-process-word-requires : tie.Need-set-process-word-requires
-set-process-word-requires c κs = let h = runs-process _ _ _ _ _ _ (c .before .before .before .before .before .pre) in omega arith
+set-process-word-requires c κs =
+    let h = at-process (c .before .before .before .before .before .pre) in
+    omega arith
 
 next-guard-requires : tie.Need-next-guard-requires
-next-guard-requires c κs = let h = runs-process _ _ _ _ _ _ (c .before .before .before .before .before .before .before .before .before .pre) in omega arith
+next-guard-requires c κs =
+    let h = at-process (c .before .before .before .before .before .before .before .before .before .pre) in
+    omega arith
 
 same-length-2 : tie.Need-same-length-2
 same-length-2 c = search needs
 
 returns-2 : tie.Need-returns-2
-returns-2 c = lower-done (c .before .before .before .before .before .before .before .before .before .before .before .before .pre) (λ e. omega arith) (c .before .before .next-guard .ensures .1) (cc)
+returns-2 c =
+    let went = c .before .before in
+    lower-done (went .before .before .before .before .before .before .before .before .before .before .pre) (λ e. omega arith)
+    (went .next-guard .ensures .1) (cc)
 
 pub lower-count-spec : {M : Type 1} → statement M
 lower-count-spec =

@@ -4,7 +4,7 @@ use native.Mathlib.Omega.{arith}
 use lib.Dec.{ltb}
 use denote.Ref.{now}
 use borrow.Author.Tests.{lt-ltb, le-ltb}
-use Rattle.choice.specs.Read.{word-of, index-at, next-table}
+use Rattle.choice.specs.Read.{word-of, next-table}
 use borrow.Author.Needs.{needs}
 use Rattle.choice.proofs.next_guard.Statement.{statement}
 use Rattle.choice.proofs.next_guard.Tie as tie

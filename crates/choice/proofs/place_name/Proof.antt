@@ -1,5 +1,5 @@
 use native.Mathlib.Omega.{arith}
-use Rattle.parts.proofs.Card.{runs-process}
+use Rattle.choice.proofs.Stands.{at-process}
 use Rattle.choice.proofs.Enabling.{place-guard, place-small, place-free, place-held}
 use borrow.Author.Needs.{needs}
 use Rattle.choice.proofs.place_name.Statement.{statement}
@@ -15,22 +15,29 @@ set-guard-word-requires : tie.Need-set-guard-word-requires
 set-guard-word-requires c κs = search (needs, place-guard)
 
 next-guard-requires : tie.Need-next-guard-requires
-next-guard-requires c κs = let h = runs-process _ _ _ _ _ _ (c .before .before .before .before .before .before .before .before .before .before .pre) in omega arith
+next-guard-requires c κs =
+    let h = at-process (c .before .before .before .before .before .before .before .before .before .before .pre) in
+    omega arith
 
 move-on-requires : tie.Need-move-on-requires
-move-on-requires c κs = search (needs, runs-process)
+move-on-requires c κs = search (needs, at-process)
 
 same-length : tie.Need-same-length
 same-length c = search needs
 
 returns : tie.Need-returns
-returns c = place-free (c .before .before .before .before .before .before .before .before .before .before .before .before .before .pre) (omega arith) (c .before .before .next-guard .ensures .1) (cc)
+returns c =
+    let went = c .before .before in
+    place-free (went .before .before .before .before .before .before .before .before .before .before .before .pre) (omega arith)
+    (went .next-guard .ensures .1) (cc)
 
 same-length-2 : tie.Need-same-length-2
 same-length-2 c = search needs
 
 returns-2 : tie.Need-returns-2
-returns-2 c = place-held (c .before .before .before .before .before .before .before .before .pre) (λ e. omega arith) (c .before .before .move-on .ensures .1) (c .before .before .move-on .ensures .0)
+returns-2 c =
+    let went = c .before .before in
+    place-held (went .before .before .before .before .before .before .pre) (λ e. omega arith) (went .move-on .ensures .1) (went .move-on .ensures .0)
 
 pub place-name-spec : {M : Type 1} → statement M
 place-name-spec =

@@ -1,13 +1,15 @@
 use Rattle.choice.proofs.Enabling.{raise-small}
 use native.Mathlib.Omega.{arith}
-use Rattle.parts.proofs.Card.{runs-process}
+use Rattle.choice.proofs.Stands.{at-process}
 use Rattle.choice.proofs.Enabling.{raise-fault, raise-done}
 use borrow.Author.Needs.{needs}
 use Rattle.choice.proofs.raise_count.Statement.{statement}
 use Rattle.choice.proofs.raise_count.Tie as tie
 
 process-word-requires : tie.Need-process-word-requires
-process-word-requires c κs = let h = runs-process _ _ _ _ _ _ (c .before .before .pre) in omega arith
+process-word-requires c κs =
+    let h = at-process (c .before .before .pre) in
+    omega arith
 
 refused-requires : tie.Need-refused-requires
 refused-requires c κs = search needs
@@ -22,18 +24,23 @@ add-set-process-word : tie.Need-add-set-process-word
 add-set-process-word c = let h = raise-small (c .before .before .before .before .before .pre) in record { fits = omega arith }
 
 set-process-word-requires : tie.Need-set-process-word-requires
-set-process-word-requires c κs = let h = runs-process _ _ _ _ _ _ (c .before .before .before .before .before .pre) in omega arith
+set-process-word-requires c κs =
+    let h = at-process (c .before .before .before .before .before .pre) in
+    omega arith
 
 move-on-requires : tie.Need-move-on-requires
-move-on-requires c κs = let h = runs-process _ _ _ _ _ _ (c .before .before .before .before .before .before .before .before .before .pre) in omega arith
+move-on-requires c κs =
+    let h = at-process (c .before .before .before .before .before .before .before .before .before .pre) in
+    omega arith
 
 same-length-2 : tie.Need-same-length-2
 same-length-2 c = search needs
 
 returns-2 : tie.Need-returns-2
 returns-2 c =
-    raise-done (c .before .before .before .before .before .before .before .before .before .before .before .before .pre) (λ e. omega arith) (c .before .before .move-on .ensures .1)
-    (cc)
+    let went = c .before .before in
+    raise-done (went .before .before .before .before .before .before .before .before .before .before .pre) (λ e. omega arith)
+    (went .move-on .ensures .1) (cc)
 
 pub raise-count-spec : {M : Type 1} → statement M
 raise-count-spec =

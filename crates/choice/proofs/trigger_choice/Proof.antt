@@ -1,4 +1,3 @@
--- The count and the flag waiting decide, as in the rule.
 use native.Mathlib.Omega.{arith}
 use Rattle.parts.proofs.Card.{card-core}
 use Rattle.choice.proofs.Finishing.{trigger-process, trigger-fault, trigger-waited, trigger-last, trigger-over}
@@ -7,7 +6,10 @@ use Rattle.choice.proofs.trigger_choice.Statement.{statement}
 use Rattle.choice.proofs.trigger_choice.Tie as tie
 
 process-word-requires : tie.Need-process-word-requires
-process-word-requires c κs = let h = trigger-process (c .before .before .pre .0) (c .before .before .pre .1) in omega arith
+process-word-requires c κs =
+    let pre = c .before .before .pre in
+    let h = trigger-process (pre .0) (pre .1) in
+    omega arith
 
 refused-requires : tie.Need-refused-requires
 refused-requires c κs = search needs
@@ -16,49 +18,61 @@ same-length : tie.Need-same-length
 same-length c = search needs
 
 returns : tie.Need-returns
-returns c = trigger-fault (c .before .before .before .before .before .pre .0) (c .before .before .before .before .before .pre .1) (omega arith) (c .refused .ensures) (cc)
+returns c = let pre = c .before .before .before .before .before .pre in trigger-fault (pre .0) (pre .1) (omega arith) (c .refused .ensures) (cc)
 
 sub-left : tie.Need-sub-left
 sub-left c = search needs
 
 process-word-requires-2 : tie.Need-process-word-requires-2
-process-word-requires-2 c κs = let h = trigger-process (c .before .before .before .before .before .pre .0) (c .before .before .before .before .before .pre .1) in omega arith
+process-word-requires-2 c κs =
+    let pre = c .before .before .before .before .before .pre in
+    let h = trigger-process (pre .0) (pre .1) in
+    omega arith
 
 set-triggered-requires : tie.Need-set-triggered-requires
-set-triggered-requires c κs = trigger-process (c .before .before .before .before .before .before .before .pre .0) (c .before .before .before .before .before .before .before .pre .1)
+set-triggered-requires c κs = let pre = c .before .before .before .before .before .before .before .pre in trigger-process (pre .0) (pre .1)
 
 next-task-requires : tie.Need-next-task-requires
-next-task-requires c κs = let h = card-core _ _ _ _ (c .before .before .before .before .before .before .before .before .before .before .before .before .pre .0) in omega arith
+next-task-requires c κs =
+    let h = card-core _ _ _ _ (c .before .before .before .before .before .before .before .before .before .before .before .before .pre .0) in
+    omega arith
 
 same-length-2 : tie.Need-same-length-2
 same-length-2 c = search needs
 
 returns-2 : tie.Need-returns-2
 returns-2 c =
-    let pre = c .before .before .before .before .before .before .before .before .before .before .before .before .before .before .before .pre in
-    trigger-waited (pre .0) (pre .1) (omega arith) (λ e. omega arith) (c .before .before .next-task .ensures .1) (cc)
+    let went = c .before .before in
+    let pre = went .before .before .before .before .before .before .before .before .before .before .before .before .before .pre in
+    trigger-waited (pre .0) (pre .1) (omega arith) (λ e. omega arith) (went .next-task .ensures .1) (cc)
 
 next-task-requires-2 : tie.Need-next-task-requires-2
-next-task-requires-2 c κs = let h = card-core _ _ _ _ (c .before .before .before .before .before .before .before .before .before .before .before .before .before .pre .0) in omega arith
+next-task-requires-2 c κs =
+    let h = card-core _ _ _ _ (c .before .before .before .before .before .before .before .before .before .before .before .before .before .pre .0) in
+    omega arith
 
 same-length-3 : tie.Need-same-length-3
 same-length-3 c = search needs
 
 returns-3 : tie.Need-returns-3
 returns-3 c =
-    let pre = c .before .before .before .before .before .before .before .before .before .before .before .before .before .before .before .before .pre in
-    trigger-last (pre .0) (pre .1) (omega arith) (λ e. omega arith) (c .before .before .next-task2 .ensures .1) (cc)
+    let went = c .before .before in
+    let pre = went .before .before .before .before .before .before .before .before .before .before .before .before .before .before .pre in
+    trigger-last (pre .0) (pre .1) (omega arith) (λ e. omega arith) (went .next-task2 .ensures .1) (cc)
 
 next-task-requires-3 : tie.Need-next-task-requires-3
-next-task-requires-3 c κs = let h = card-core _ _ _ _ (c .before .before .before .before .before .before .before .before .before .before .before .before .before .pre .0) in omega arith
+next-task-requires-3 c κs =
+    let h = card-core _ _ _ _ (c .before .before .before .before .before .before .before .before .before .before .before .before .before .pre .0) in
+    omega arith
 
 same-length-4 : tie.Need-same-length-4
 same-length-4 c = search needs
 
 returns-4 : tie.Need-returns-4
 returns-4 c =
-    let pre = c .before .before .before .before .before .before .before .before .before .before .before .before .before .before .before .before .pre in
-    trigger-over (pre .0) (pre .1) (λ e. omega arith) (λ e. omega arith) (λ e. omega arith) (c .before .before .next-task3 .ensures .1) (cc)
+    let went = c .before .before in
+    let pre = went .before .before .before .before .before .before .before .before .before .before .before .before .before .before .pre in
+    trigger-over (pre .0) (pre .1) (λ e. omega arith) (λ e. omega arith) (λ e. omega arith) (went .next-task3 .ensures .1) (cc)
 
 pub trigger-choice-spec : {M : Type 1} → statement M
 trigger-choice-spec =
