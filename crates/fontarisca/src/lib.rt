@@ -4,7 +4,7 @@ ghost use Prim.Native.Nat.{_<_};
 ghost use lib.Dec.{T};
 ghost use lib.ListN.{getD};
 ghost use Rattle.rules.specs.Soundness.{sound};
-ghost use Rattle.rules.specs.Calls.{set-up-call, send-call, receive-call, choose-call, yield-call, end-call};
+ghost use Rattle.rules.specs.Calls.{set-up-call, send-call, receive-call, choose-call, yield-call, end-call, step-call};
 ghost use Rattle.fontarisca.specs.First.{first-refusal};
 
 // What a call is refused for before its rule is looked at: the answer slice isn't 3 long, the table isn't sound, there is no such
@@ -125,6 +125,23 @@ pub extern "C" fn fontarisca_end(table: &mut [u32], answer: &mut [u32], core: u3
     let cores = header_word(table, 0);
     let processes = header_word(table, 1);
     let r = requests::end_process(table, cores as usize, processes as usize, core as usize);
+    answers::tell(answer, r);
+    r.number
+}
+
+#[no_mangle]
+pub extern "C" fn fontarisca_step(table: &mut [u32], answer: &mut [u32], core: u32) -> u32
+    ensures number { λ r. ⌜ r ≡ step-call (now (table .entry)) (now (answer .entry)) core .number ⌝ }
+    ensures answer { λ r. ⌜ now (answer .exit) ≡ step-call (now (table .entry)) (now (answer .entry)) core .answer ⌝ }
+    ensures table { λ r. ⌜ now (table .exit) ≡ step-call (now (table .entry)) (now (answer .entry)) core .table ⌝ }
+{
+    let why = refused_first(table, answer, core);
+    if why != 0 {
+        return why;
+    }
+    let cores = header_word(table, 0);
+    let processes = header_word(table, 1);
+    let r = stepping::step_core(table, cores as usize, processes as usize, core as usize);
     answers::tell(answer, r);
     r.number
 }
