@@ -171,41 +171,44 @@ module _ {t : List ℕ} {cores processes k q : ℕ} (card : Card t cores process
   pub trigger-fault : {r : Reply} {u : List ℕ} → word-of t cores q 5 ≡ 0 → r ≡ four (no-because FAULT) → u ≡ t → Does (trigger-step k q) t r u
   trigger-fault {r} {u} e a b = lowered-fault (view t) t triggering r u (triggered .count) (sym trigger-count ∙ e) a b
 
-  -- the task that comes next, by its words
-  trigger-done : (r : Reply) (u : List ℕ) (task p : ℕ)
-      → work-words (free (if triggered .waiting || eqb (triggered .count - 1) 0 then wake-up q else no-task)) ≡ 0 ∷ task ∷ p ∷ []
-      → (word-of t cores q 5 ≡ 0 → ⊥) → r ≡ four (yes-with MOVED) → u ≡ task-table (triggered-table t cores q (word-of t cores q 5 - 1)) k task p
-      → Does (trigger-step k q) t r u
-  trigger-done r u task p words ne a b =
-      let n = triggered .count - 1 in
-      lowered-on (view t) t triggering r u (triggered .count) (λ e. ne (trigger-count ∙ e)) (
-        a,
-        b ∙ task-packs (alternation-packs (card-packs card) q trigger-among (flags (triggered .enabling) false false (counting n triggered))
-            ((1, 0) ∷ (2, 0) ∷ (3, word-of t cores q 5 - 1) ∷ []) tt (rw trigger-count)) k (card .inside)
-            (if triggered .waiting || eqb n 0 then wake-up q else no-task) task p words .is,
-      )
+  -- The count read is m, the table on the way v. By the words of the task that comes next:
+  module _ {r : Reply} {u v : List ℕ} {m : ℕ} where
+    trigger-done : (task p : ℕ)
+        → work-words (free (if triggered .waiting || eqb (triggered .count - 1) 0 then wake-up q else no-task)) ≡ 0 ∷ task ∷ p ∷ []
+        → (word-of t cores q 5 ≡ 0 → ⊥) → m ≡ word-of t cores q 5 → v ≡ triggered-table t cores q (m - 1) → r ≡ four (yes-with MOVED)
+        → u ≡ task-table v k task p → Does (trigger-step k q) t r u
+    trigger-done task p words ne read first a b =
+        let n = triggered .count - 1 in
+        let count : m ≡ triggered .count = read ∙ trigger-count in
+        lowered-on (view t) t triggering r u (triggered .count) (λ e. ne (trigger-count ∙ e)) (
+          a,
+          b ∙ ap (λ (l : List ℕ). task-table l k task p) first
+              ∙ task-packs (alternation-packs (card-packs card) q trigger-among (flags (triggered .enabling) false false (counting n triggered))
+              ((1, 0) ∷ (2, 0) ∷ (3, m - 1) ∷ []) tt (rw count)) k (card .inside)
+              (if triggered .waiting || eqb n 0 then wake-up q else no-task) task p words .is,
+        )
 
-  -- waiting had been set
-  pub trigger-waited : {r : Reply} {u : List ℕ} → word-of t cores q 4 ≡ 1 → (word-of t cores q 5 ≡ 0 → ⊥) → r ≡ four (yes-with MOVED)
-      → u ≡ task-table (triggered-table t cores q (word-of t cores q 5 - 1)) k 2 q → Does (trigger-step k q) t r u
-  trigger-waited {r} {u} e =
-      let reads = trigger-waiting in trigger-done r u 2 q (rw (set-flag (triggered .waiting) (λ z. omega arith)))
+    -- waiting had been set
+    pub trigger-waited : word-of t cores q 4 ≡ 1 → (word-of t cores q 5 ≡ 0 → ⊥) → m ≡ word-of t cores q 5
+        → v ≡ triggered-table t cores q (m - 1) → r ≡ four (yes-with MOVED) → u ≡ task-table v k 2 q → Does (trigger-step k q) t r u
+    trigger-waited e = let reads = trigger-waiting in trigger-done 2 q (rw (set-flag (triggered .waiting) (λ z. omega arith)))
 
-  -- the new count is 0
-  pub trigger-last : {r : Reply} {u : List ℕ} → word-of t cores q 5 ≡ 1 → (word-of t cores q 5 ≡ 0 → ⊥) → r ≡ four (yes-with MOVED)
-      → u ≡ task-table (triggered-table t cores q (word-of t cores q 5 - 1)) k 2 q → Does (trigger-step k q) t r u
-  trigger-last {r} {u} e =
-      let reads = trigger-count in
-      trigger-done r u 2 q (rw (eq-eqb (triggered .count - 1) 0 (omega arith)) (either (triggered .waiting)))
-    where
-      either : (y : Bool) → work-words (free (if y || true then wake-up q else no-task)) ≡ 0 ∷ 2 ∷ q ∷ []
-      either true = refl
-      either false = refl
+    -- the new count is 0
+    pub trigger-last : word-of t cores q 5 ≡ 1 → (word-of t cores q 5 ≡ 0 → ⊥) → m ≡ word-of t cores q 5
+        → v ≡ triggered-table t cores q (m - 1) → r ≡ four (yes-with MOVED) → u ≡ task-table v k 2 q → Does (trigger-step k q) t r u
+    trigger-last e =
+        let reads = trigger-count in
+        trigger-done 2 q (rw (eq-eqb (triggered .count - 1) 0 (omega arith)) (either (triggered .waiting)))
+      where
+        either : (y : Bool) → work-words (free (if y || true then wake-up q else no-task)) ≡ 0 ∷ 2 ∷ q ∷ []
+        either true = refl
+        either false = refl
 
-  -- neither
-  pub trigger-over : {r : Reply} {u : List ℕ} → (word-of t cores q 4 ≡ 1 → ⊥) → (word-of t cores q 5 ≡ 1 → ⊥) → (word-of t cores q 5 ≡ 0 → ⊥)
-      → r ≡ four (yes-with MOVED) → u ≡ task-table (triggered-table t cores q (word-of t cores q 5 - 1)) k 0 0 → Does (trigger-step k q) t r u
-  trigger-over {r} {u} calm more ne =
-      let count = trigger-count in
-      trigger-done r u 0 0
-      (rw (unset-flag (triggered .waiting) (λ e. calm (trigger-waiting ∙ e)), ne-eqb (triggered .count - 1) 0 (λ z. omega arith))) ne
+    -- neither
+    pub trigger-over : (word-of t cores q 4 ≡ 1 → ⊥) → (word-of t cores q 5 ≡ 1 → ⊥) → (word-of t cores q 5 ≡ 0 → ⊥)
+        → m ≡ word-of t cores q 5 → v ≡ triggered-table t cores q (m - 1) → r ≡ four (yes-with MOVED) → u ≡ task-table v k 0 0
+        → Does (trigger-step k q) t r u
+    trigger-over calm more ne =
+        let count = trigger-count in
+        trigger-done 0 0
+        (rw (unset-flag (triggered .waiting) (λ e. calm (trigger-waiting ∙ e)), ne-eqb (triggered .count - 1) 0 (λ z. omega arith))) ne

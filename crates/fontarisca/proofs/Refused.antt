@@ -25,7 +25,7 @@ has-header t fits = by-header (header-fits t) refl
     by-header true e =
         let h : T (header-fits t) = rw e tt in
         let parts =
-                four (leb 8 (length t)) (sizes (word t 0) (word t 1) (word t 2)) (eqb (length t) (room (word t 0) (word t 1) (word t 2))) (zeros t 3 5) h in
+        four (leb 8 (length t)) (sizes (word t 0) (word t 1) (word t 2)) (eqb (length t) (room (word t 0) (word t 1) (word t 2))) (zeros t 3 5) h in
         let long : 8 ≤ length t = leb→le 8 (length t) (parts .0) in
         omega arith
     by-header false e = absurd (let none : false ≡ table-fits t = rw e in false≢true (none ∙ fits))

@@ -40,9 +40,14 @@ pub extern "C" fn fontarisca_set_up(k: u32, n: u32, m: u32, pairs: &[u32], table
     set_up::build(k, n, m, pairs, table)
 }
 
-
 #[no_mangle]
-pub extern "C" fn fontarisca_send(table: &mut [u32], answer: &mut [u32], core: u32, channel: u32, value: u32) -> u32
+pub extern "C" fn fontarisca_send(
+    table: &mut [u32],
+    answer: &mut [u32],
+    core: u32,
+    channel: u32,
+    value: u32,
+) -> u32
     ensures number { λ r. ⌜ r ≡ send-call (now (table .entry)) (now (answer .entry)) core channel value .number ⌝ }
     ensures answer { λ r. ⌜ now (answer .exit) ≡ send-call (now (table .entry)) (now (answer .entry)) core channel value .answer ⌝ }
     ensures table { λ r. ⌜ now (table .exit) ≡ send-call (now (table .entry)) (now (answer .entry)) core channel value .table ⌝ }
@@ -54,13 +59,26 @@ pub extern "C" fn fontarisca_send(table: &mut [u32], answer: &mut [u32], core: u
     let cores = header_word(table, 0);
     let processes = header_word(table, 1);
     let channels = header_word(table, 2);
-    let r = requests::send(table, cores as usize, processes as usize, channels, core as usize, channel, value);
+    let r = requests::send(
+        table,
+        cores as usize,
+        processes as usize,
+        channels,
+        core as usize,
+        channel,
+        value,
+    );
     answers::tell(answer, r);
     r.number
 }
 
 #[no_mangle]
-pub extern "C" fn fontarisca_receive(table: &mut [u32], answer: &mut [u32], core: u32, channel: u32) -> u32
+pub extern "C" fn fontarisca_receive(
+    table: &mut [u32],
+    answer: &mut [u32],
+    core: u32,
+    channel: u32,
+) -> u32
     ensures number { λ r. ⌜ r ≡ receive-call (now (table .entry)) (now (answer .entry)) core channel .number ⌝ }
     ensures answer { λ r. ⌜ now (answer .exit) ≡ receive-call (now (table .entry)) (now (answer .entry)) core channel .answer ⌝ }
     ensures table { λ r. ⌜ now (table .exit) ≡ receive-call (now (table .entry)) (now (answer .entry)) core channel .table ⌝ }
@@ -72,13 +90,25 @@ pub extern "C" fn fontarisca_receive(table: &mut [u32], answer: &mut [u32], core
     let cores = header_word(table, 0);
     let processes = header_word(table, 1);
     let channels = header_word(table, 2);
-    let r = requests::receive(table, cores as usize, processes as usize, channels, core as usize, channel);
+    let r = requests::receive(
+        table,
+        cores as usize,
+        processes as usize,
+        channels,
+        core as usize,
+        channel,
+    );
     answers::tell(answer, r);
     r.number
 }
 
 #[no_mangle]
-pub extern "C" fn fontarisca_choose(table: &mut [u32], answer: &mut [u32], core: u32, guards: &[u32]) -> u32
+pub extern "C" fn fontarisca_choose(
+    table: &mut [u32],
+    answer: &mut [u32],
+    core: u32,
+    guards: &[u32],
+) -> u32
     ensures number { λ r. ⌜ r ≡ choose-call (now (table .entry)) (now (answer .entry)) core (now (guards .entry)) .number ⌝ }
     ensures answer { λ r. ⌜ now (answer .exit) ≡ choose-call (now (table .entry)) (now (answer .entry)) core (now (guards .entry)) .answer ⌝ }
     ensures table { λ r. ⌜ now (table .exit) ≡ choose-call (now (table .entry)) (now (answer .entry)) core (now (guards .entry)) .table ⌝ }
@@ -90,7 +120,14 @@ pub extern "C" fn fontarisca_choose(table: &mut [u32], answer: &mut [u32], core:
     let cores = header_word(table, 0);
     let processes = header_word(table, 1);
     let channels = header_word(table, 2);
-    let r = requests::choose(table, cores as usize, processes as usize, channels, core as usize, guards);
+    let r = requests::choose(
+        table,
+        cores as usize,
+        processes as usize,
+        channels,
+        core as usize,
+        guards,
+    );
     answers::tell(answer, r);
     r.number
 }

@@ -124,9 +124,9 @@ module _ {t : List ℕ} {cores processes : ℕ} {s : State} (packs : Packs t cor
       let x = process-of s p .progress in
       let zeros = places 0 (replicate 14 0) in
       let same : sets t (process-at cores p 6) (replicate 14 0) ≡ writes zeros (λ j. process-at cores p (6 + j)) t =
-          ap (λ (a : ℕ). sets t a (replicate 14 0)) (sym (add-zero (process-at cores p 6)))
-          ∙ sets-writes (replicate 14 0) t (process-at cores p 6) 0
-          ∙ ap (λ (at : ℕ → ℕ). writes zeros at t) (fun-ext (further cores p))
+      ap (λ (a : ℕ). sets t a (replicate 14 0)) (sym (add-zero (process-at cores p 6)))
+      ∙ sets-writes (replicate 14 0) t (process-at cores p 6) 0
+      ∙ ap (λ (at : ℕ → ℕ). writes zeros at t) (fun-ext (further cores p))
       in
       subst (λ (u : List ℕ). Packs u cores processes (put progress p nothing s)) (sym same)
       (progress-written packs p low high x nothing zeros refl tt (on-listed x zeros refl))

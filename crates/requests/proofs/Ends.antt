@@ -1,24 +1,24 @@
 -- A channel's end and a list of guards: the code's tests are those of the rules.
 use Prim.Native.Nat.{ℕ, zero, suc, _≤_}
-use mathlib.Core.Path.{_≡_, refl, sym, ap, _∙_, subst}
+use mathlib.Core.Path.{_≡_, refl, sym, ap, ap₂, _∙_, subst}
 use mathlib.Core.Bool.{Bool, true, false}
-use mathlib.Core.List.{List, [], _∷_}
-use native.Mathlib.Omega.{arith}
+use mathlib.Core.List.{List}
 use lib.Dec.{T, eqb, lit<}
-use lib.ListN.{length, getD, length-map, List·getD-map}
+use lib.ListN.{length, length-map, List·getD-map}
 use borrow.Author.Tests.{eq-eqb, ne-eqb}
-use Rattle.rules.specs.Lists.{if_then_else_, within, nth, member}
-use Rattle.rules.specs.Numbers.{Answer, CHANNEL, OTHER-END, TWICE}
-use Rattle.rules.specs.State.{Way, sending, receiving, Channel, Ends, State, Wiring, wiring, at-end, end-of}
+use Rattle.rules.specs.Lists.{within}
+use Rattle.rules.specs.Numbers.{Answer, CHANNEL, OTHER-END}
+use Rattle.rules.specs.State.{Way, sending, receiving, Channel, State, Wiring, wiring, at-end, end-of}
 use Rattle.rules.specs.Items.{no-channel, channel-of}
 use Rattle.rules.specs.Rule.{Rule, Ran, run, _>>_}
-use Rattle.rules.specs.Requests.{Request, request, asks, unless, proper-end, proper-guards}
+use Rattle.rules.specs.Requests.{unless, proper-end}
 use Rattle.rules.specs.Packing.{pack, view, word-at, channel-at, M-of}
 use Rattle.packing.proofs.Reflect.{within-means}
 use Rattle.packing.proofs.ReadLaws.{read-channel}
+use Rattle.answers.specs.declared.Reply.{Reply}
 use Rattle.parts.specs.Does.{Card, Comes}
 use Rattle.parts.proofs.Card.{packed, cores-are, processes-are, M-is}
-use Rattle.requests.specs.Asked.{refusal, end-number, end-refusal, guards-refusal}
+use Rattle.requests.specs.Asked.{refusal, end-number, end-refusal}
 
 -- What tests of this number n leave of what a rule comes to, x: a refusal of that number, or y where n is 0.
 abbrev Settled : List ℕ → Bool → ℕ → Ran Answer → Ran Answer → Type 0
@@ -28,11 +28,16 @@ Settled t false n x y = Comes x t (refusal n) t
 abbrev pub Checked : List ℕ → ℕ → Ran Answer → Ran Answer → Type 0
 Checked t n x y = Settled t (eqb n 0) n x y
 
-pub passes : (t : List ℕ) (n : ℕ) (x y : Ran Answer) → Checked t n x y → n ≡ 0 → x ≡ y
-passes t n x y h e = subst (λ (b : Bool). Settled t b n x y) (eq-eqb n 0 e) h
+module _ (t : List ℕ) (n : ℕ) (x y : Ran Answer) (h : Checked t n x y) where
+  pub passes : n ≡ 0 → (r : Reply) (u : List ℕ) → Comes y t r u → Comes x t r u
+  passes e r u =
+      let same : x ≡ y = subst (λ (b : Bool). Settled t b n x y) (eq-eqb n 0 e) h in
+      subst (λ (z : Ran Answer). Comes z t r u) (sym same)
 
-pub stops : (t : List ℕ) (n : ℕ) (x y : Ran Answer) → Checked t n x y → (n ≡ 0 → ⊥) → Comes x t (refusal n) t
-stops t n x y h e = subst (λ (b : Bool). Settled t b n x y) (ne-eqb n 0 e) h
+  pub stops : (n ≡ 0 → ⊥) → {r : Reply} → r ≡ refusal n → Comes x t r t
+  stops e {r} e′ =
+      let told : Comes x t (refusal n) t = subst (λ (b : Bool). Settled t b n x y) (ne-eqb n 0 e) h in
+      rw e′ told
 
 -- The rules
 
@@ -71,15 +76,15 @@ module _ (t : List ℕ) (cores processes channels k : ℕ) (card : Card t cores 
   end-read : (way : Way) (c : ℕ) → 1 ≤ c → c ≤ length (view t .channels)
       → word-at t (channel-at cores processes c (end-word way)) ≡ end-of (wiring (view t)) way c
   end-read way c low high =
-      (let e = cores-are t cores processes k card in
-      let f = processes-are t cores processes k card in
-      let g = packed t (card .is-sound) in
-      let h : word-at t (channel-at cores processes c (end-word way)) ≡ word-at (pack (view t)) (channel-at (length (view t .cores)) (length (view t .processes)) c (end-word way)) = cc in
-      h)
+      ap (λ (u : List ℕ). word-at u (channel-at cores processes c (end-word way))) (packed t (card .is-sound))
+      ∙ ap₂ (λ (n m : ℕ). word-at (pack (view t)) (channel-at n m c (end-word way)))
+      (cores-are t cores processes k card) (processes-are t cores processes k card)
       ∙ at-way way
       ∙ sym (end-viewed way c)
     where
-      at-way : (way : Way) → word-at (pack (view t)) (channel-at (length (view t .cores)) (length (view t .processes)) c (end-word way)) ≡ at-end way (channel-of (view t) c .ends)
+      at-way : (way : Way)
+          → word-at (pack (view t)) (channel-at (length (view t .cores)) (length (view t .processes)) c (end-word way))
+          ≡ at-end way (channel-of (view t) c .ends)
       at-way sending = read-channel (view t) c 0 low high (lit< tt)
       at-way receiving = read-channel (view t) c 1 low high (lit< tt)
 
@@ -93,7 +98,8 @@ module _ (t : List ℕ) (cores processes channels k : ℕ) (card : Card t cores 
       same-number = channels-are ∙ sym (length-map (view t .channels) (λ (x : Channel). x .ends))
 
       cases : (known : Bool) → within 1 (length (wiring (view t) .ends)) c ≡ known
-          → end-number known (eqb (word-at t (channel-at cores processes c (end-word way))) p) ≡ end-number known (eqb (end-of (wiring (view t)) way c) p)
+          → end-number known (eqb (word-at t (channel-at cores processes c (end-word way))) p)
+          ≡ end-number known (eqb (end-of (wiring (view t)) way c) p)
       cases false e = refl
       cases true e =
           let range = within-means 1 (length (wiring (view t) .ends)) c (subst T (sym e) tt) in

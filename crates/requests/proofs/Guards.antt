@@ -1,5 +1,5 @@
 -- A list of guards, gone through guard by guard.
-use Prim.Native.Nat.{ℕ, zero, suc, _+_, _≤_, _<_}
+use Prim.Native.Nat.{ℕ, zero, suc, _+_, _<_}
 use mathlib.Core.Path.{_≡_, refl, sym, ap, _∙_}
 use mathlib.Core.Bool.{Bool, true, false, _||_}
 use mathlib.Core.List.{List, [], _∷_, _++_}
@@ -36,7 +36,8 @@ member-last x y (z ∷ l) = ap (λ (b : Bool). eqb z x || b) (member-last x y l)
 member-next : (l : List ℕ) (j x : ℕ) → j < length l → member x (take (j + 1) l) ≡ (eqb (getD l j 0) x || member x (take j l))
 member-next l j x h = rw (add-one, take-suc l j 0) (member-last x (getD l j 0) (take j l))
 
-pub not-yet : (l : List ℕ) (j x : ℕ) → j < length l → member x (take j l) ≡ false → (getD l j 0 ≡ x → ⊥) → member x (take (j + 1) l) ≡ false
+pub not-yet : (l : List ℕ) (j x : ℕ) → j < length l → member x (take j l) ≡ false → (getD l j 0 ≡ x → ⊥)
+    → member x (take (j + 1) l) ≡ false
 not-yet l j x h before other = member-next l j x h ∙ rw (ne-eqb (getD l j 0) x other, before)
 
 pub stands : (l : List ℕ) (i j x : ℕ) → j < i → j < length l → getD l j 0 ≡ x → member x (take i l) ≡ true

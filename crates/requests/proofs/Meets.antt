@@ -13,20 +13,20 @@ use Rattle.rules.specs.Items.{data-word, alternation, progress, put}
 use Rattle.rules.specs.Rule.{Rule, Ran, run, done, write, _>>_}
 use Rattle.rules.specs.Requests.{Request, send, receive, choose, yield, end, request, asks, unless, proper-end, proper-guards, choice-begun}
 use Rattle.rules.specs.Packing.{pack, view, process-at, M-of}
+use Rattle.packing.specs.Queues.{push-table, Queued}
+use Rattle.packing.proofs.States.{length-set-nth}
+use Rattle.packing.proofs.Queued.{valid-queued, queued-put}
 use Rattle.answers.specs.Four.{four}
 use Rattle.answers.specs.declared.Reply.{Reply}
 use Rattle.table.specs.Has.{HasCore, HasProcess}
 use Rattle.table.proofs.Has.{has-core, has-process}
-use Rattle.packing.specs.Queues.{push-table, Queued}
-use Rattle.packing.proofs.States.{length-set-nth}
-use Rattle.packing.proofs.Queued.{valid-queued, queued-put}
 use Rattle.queues.specs.Fits.{CanJoin}
 use Rattle.queues.proofs.Fits.{can-join}
-use Rattle.parts.specs.Does.{Card, Comes, Does, of-way}
+use Rattle.parts.specs.Does.{Card, Comes, Does}
 use Rattle.parts.specs.Shared.{task-table}
 use Rattle.parts.proofs.Card.{packed, view-valid, facts, length-is, cores-are, processes-are, card-core, card-process}
 use Rattle.requests.specs.Asked.{asker, refusal, end-refusal, guards-refusal, look-table, begun-table, enabling-table}
-use Rattle.requests.proofs.Running.{Idle, run-asks, busy, idle}
+use Rattle.requests.proofs.Running.{Idle, run-asks, asking}
 use Rattle.requests.proofs.Ends.{Checked, passes, stops, end-word, end-checked, end-same, channels-are}
 use Rattle.requests.proofs.Guards.{same-ends, guards-checked}
 use Rattle.requests.proofs.Written.{look-law, send-law, end-law, due-law, queued-law, choose-law}
@@ -55,6 +55,10 @@ module _ (t : List ℕ) (cores processes k : ℕ) (card : Card t cores processes
       let l = length-is t (card .is-sound) in
       omega arith
 
+-- the reply r and the table u are what the rule says of a request on core k of the table t
+abbrev pub Meets : List ℕ → ℕ → Request → Reply → List ℕ → Type 0
+Meets t k x r u = Does (request (wiring (view t)) x k) t r u
+
 -- p is what the code finds on core k
 pub record Found (t : List ℕ) (cores processes k p : ℕ) : Type 0 where
   pub card : Card t cores processes k
@@ -62,10 +66,10 @@ pub record Found (t : List ℕ) (cores processes k p : ℕ) : Type 0 where
 
 -- no process to ask
 pub busy-does : {t : List ℕ} {cores processes k p : ℕ} → Found t cores processes k p → p ≡ 0 → (x : Request) {r : Reply} → r ≡ refusal 28
-    → Does (request (wiring (view t)) x k) t r t
+    → Meets t k x r t
 busy-does {t} {cores} {processes} {k} {p} found none x {r} e =
     subst (λ (z : Ran Answer). Comes z t r t)
-    (sym (busy t cores processes k (found .card) p (found .number) none (wiring (view t)) x)) (e, refl)
+    (sym (asking t cores processes k (found .card) p (found .number) .0 none (wiring (view t)) x)) (e, refl)
 
 -- a process to ask
 pub record Asked (t : List ℕ) (cores processes k p : ℕ) : Type 0 where
@@ -77,7 +81,7 @@ module _ {t : List ℕ} {cores processes k p : ℕ} (asked : Asked t cores proce
   card = asked .found .card
 
   is-idle : Idle (view t) k p
-  is-idle = idle t cores processes k card p (asked .found .number) (asked .some)
+  is-idle = asking t cores processes k card p (asked .found .number) .1 (asked .some)
 
   inside : k < length (view t .cores)
   inside = let a = cores-are t cores processes k card in let b = card .inside in omega arith
@@ -90,7 +94,7 @@ module _ {t : List ℕ} {cores processes k p : ℕ} (asked : Asked t cores proce
 
   -- what the rule comes to when the process is asked
   asks-does : (x : Request) (r : Reply) (u : List ℕ)
-      → Comes (run (asks (wiring (view t)) k p x) (view t)) t r u → Does (request (wiring (view t)) x k) t r u
+      → Comes (run (asks (wiring (view t)) k p x) (view t)) t r u → Meets t k x r u
   asks-does x r u h = subst (λ (z : Ran Answer). Comes z t r u) (sym (run-asks (view t) (wiring (view t)) x k p is-idle)) h
 
   -- a table that is written from t is written from a packing
@@ -99,12 +103,13 @@ module _ {t : List ℕ} {cores processes k p : ℕ} (asked : Asked t cores proce
 
   -- End
   pub end-does : {r : Reply} {m u : List ℕ} → r ≡ four (yes-with (TAKEN p 0)) → m ≡ set t (process-at cores p 0) 4 → u ≡ task-table m k 0 0
-      → Does (request (wiring (view t)) end k) t r u
+      → Meets t k end r u
   end-does {r} {m} {u} e e′ e″ =
-      asks-does end r u
-      (e,
-      e″ ∙ ap (λ (m : List ℕ). task-table m k 0 0) e′ ∙ on-packing (λ u n. task-table (set u (process-at n p 0) 4) k 0 0)
-      ∙ end-law (view t) k p inside (is-idle .low) (is-idle .high))
+      asks-does end r u (
+        e,
+        e″ ∙ ap (λ (m : List ℕ). task-table m k 0 0) e′ ∙ on-packing (λ u n. task-table (set u (process-at n p 0) 4) k 0 0)
+            ∙ end-law (view t) k p inside (is-idle .low) (is-idle .high),
+      )
 
   -- Yield
   module _ {m : List ℕ} (stored : m ≡ set t (process-at cores p 6) 20) where
@@ -122,7 +127,9 @@ module _ {t : List ℕ} {cores processes k p : ℕ} (asked : Asked t cores proce
 
     stored-packing : m ≡ pack yielding
     unfolding yielding
-    stored-packing = stored ∙ on-packing (λ u n. set u (process-at n p 6) 20) ∙ due-law (view t) p (is-idle .low) (is-idle .high) (is-idle .progress)
+    stored-packing =
+        stored ∙ on-packing (λ u n. set u (process-at n p 6) 20)
+        ∙ due-law (view t) p (is-idle .low) (is-idle .high) (is-idle .progress)
 
     -- what it needs to be queued
     pub yield-joins : CanJoin m cores k p
@@ -133,14 +140,16 @@ module _ {t : List ℕ} {cores processes k p : ℕ} (asked : Asked t cores proce
         (can-join yielding k inside order few p (is-idle .low) high′)
 
     pub yield-does : {r : Reply} {j u : List ℕ} → r ≡ four (yes-with (TAKEN p 0)) → j ≡ push-table (set m (process-at cores p 0) 2) cores k p
-        → u ≡ task-table j k 0 0 → Does (request (wiring (view t)) yield k) t r u
+        → u ≡ task-table j k 0 0 → Meets t k yield r u
     unfolding yielding
     yield-does {r} {j} {u} e e′ e″ =
-        asks-does yield r u
-        (e,
-        e″ ∙ ap (λ (j : List ℕ). task-table j k 0 0) e′
-        ∙ ap₂ (λ (m : List ℕ) (n : ℕ). task-table (push-table (set m (process-at n p 0) 2) n k p) k 0 0) stored-packing (cores-are t cores processes k card)
-        ∙ queued-law yielding k p inside order (is-idle .low) high′)
+        asks-does yield r u (
+          e,
+          e″ ∙ ap (λ (j : List ℕ). task-table j k 0 0) e′
+              ∙ ap₂ (λ (m : List ℕ) (n : ℕ). task-table (push-table (set m (process-at n p 0) 2) n k p) k 0 0)
+              stored-packing (cores-are t cores processes k card)
+              ∙ queued-law yielding k p inside order (is-idle .low) high′,
+        )
 
   module _ (channels : ℕ) (all-channels : channels ≡ M-of t) where
     -- a request at an end of a channel, of which the rule q is left once the end is proper
@@ -159,50 +168,52 @@ module _ {t : List ℕ} {cores processes k p : ℕ} (asked : Asked t cores proce
       send-tested : Checked t n (run (request (wiring (view t)) (send c v) k) (view t)) (run (send-rest p c v) (view t))
       send-tested = end-tested (send c v) sending c n (send-rest p c v) refl tested
 
-      pub send-refused : (n ≡ 0 → ⊥) → {r : Reply} → r ≡ refusal n → Does (request (wiring (view t)) (send c v) k) t r t
-      send-refused bad e = rw e (stops t n _ _ send-tested bad)
+      pub send-refused : (n ≡ 0 → ⊥) → {r : Reply} → r ≡ refusal n → Meets t k (send c v) r t
+      send-refused = stops t n _ _ send-tested
 
       pub send-does : n ≡ 0 → {r : Reply} {m u : List ℕ} → r ≡ four (yes-with (TAKEN p c))
-          → m ≡ set t (process-at cores p 1) v → u ≡ look-table m cores p 1 c → Does (request (wiring (view t)) (send c v) k) t r u
+          → m ≡ set t (process-at cores p 1) v → u ≡ look-table m cores p 1 c → Meets t k (send c v) r u
       send-does good {r} {m} {u} e e′ e″ =
-          subst (λ (z : Ran Answer). Comes z t r u) (sym (passes t n _ _ send-tested good))
-          (e,
-          e″ ∙ ap (λ (m : List ℕ). look-table m cores p 1 c) e′ ∙ on-packing (λ u n. look-table (set u (process-at n p 1) v) n p 1 c)
-          ∙ send-law (view t) p (is-idle .low) (is-idle .high) (is-idle .progress) c v)
+          passes t n _ _ send-tested good r u (
+            e,
+            e″ ∙ ap (λ (m : List ℕ). look-table m cores p 1 c) e′ ∙ on-packing (λ u n. look-table (set u (process-at n p 1) v) n p 1 c)
+                ∙ send-law (view t) p (is-idle .low) (is-idle .high) (is-idle .progress) c v,
+          )
 
     -- Receive
     module _ (c n : ℕ) (tested : n ≡ end-refusal t cores processes channels p 1 c) where
       receive-tested : Checked t n (run (request (wiring (view t)) (receive c) k) (view t)) (run (receive-rest p c) (view t))
       receive-tested = end-tested (receive c) receiving c n (receive-rest p c) refl tested
 
-      pub receive-refused : (n ≡ 0 → ⊥) → {r : Reply} → r ≡ refusal n → Does (request (wiring (view t)) (receive c) k) t r t
-      receive-refused bad e = rw e (stops t n _ _ receive-tested bad)
+      pub receive-refused : (n ≡ 0 → ⊥) → {r : Reply} → r ≡ refusal n → Meets t k (receive c) r t
+      receive-refused = stops t n _ _ receive-tested
 
       pub receive-does : n ≡ 0 → {r : Reply} {u : List ℕ} → r ≡ four (yes-with (TAKEN p c))
-          → u ≡ look-table t cores p 6 c → Does (request (wiring (view t)) (receive c) k) t r u
+          → u ≡ look-table t cores p 6 c → Meets t k (receive c) r u
       receive-does good {r} {u} e e′ =
-          subst (λ (z : Ran Answer). Comes z t r u) (sym (passes t n _ _ receive-tested good))
-          (e,
-          e′ ∙ on-packing (λ u n. look-table u n p 6 c) ∙ look-law (view t) p (is-idle .low) (is-idle .high) (is-idle .progress) receiving c)
+          passes t n _ _ receive-tested good r u (
+            e,
+            e′ ∙ on-packing (λ u n. look-table u n p 6 c) ∙ look-law (view t) p (is-idle .low) (is-idle .high) (is-idle .progress) receiving c,
+          )
 
     -- Choose
     module _ (guards : List ℕ) where
       after-number : Bool → Ran Answer
       after-number right = run (unless right GUARDS >> (proper-guards (wiring (view t)) p [] guards >> choose-rest p guards)) (view t)
 
-      number-refused : within 1 8 (length guards) ≡ false → {r : Reply} → r ≡ refusal 30 → Does (request (wiring (view t)) (choose guards) k) t r t
+      number-refused : within 1 8 (length guards) ≡ false → {r : Reply} → r ≡ refusal 30 → Meets t k (choose guards) r t
       unfolding after-number
       number-refused wrong {r} e =
           asks-does (choose guards) r t (subst (λ (b : Bool). Comes (after-number b) t r t) (sym wrong) (e, refl))
 
-      pub none-refused : length guards ≡ 0 → {r : Reply} → r ≡ refusal 30 → Does (request (wiring (view t)) (choose guards) k) t r t
+      pub none-refused : length guards ≡ 0 → {r : Reply} → r ≡ refusal 30 → Meets t k (choose guards) r t
       none-refused none = number-refused (rw (lt-leb 1 (length guards) (omega arith)))
 
-      pub many-refused : 8 < length guards → {r : Reply} → r ≡ refusal 30 → Does (request (wiring (view t)) (choose guards) k) t r t
+      pub many-refused : 8 < length guards → {r : Reply} → r ≡ refusal 30 → Meets t k (choose guards) r t
       many-refused many = number-refused (rw (le-leb 1 (length guards) (omega arith), lt-leb (length guards) 8 many))
 
       module _ (some : length guards ≡ 0 → ⊥) (few : length guards ≤ 8) (n : ℕ)
-               (tested : n ≡ guards-refusal (end-refusal t cores processes channels p 1) [] guards) where
+          (tested : n ≡ guards-refusal (end-refusal t cores processes channels p 1) [] guards) where
         choose-tested : Checked t n (run (request (wiring (view t)) (choose guards) k) (view t)) (run (choose-rest p guards) (view t))
         unfolding after-number
         choose-tested =
@@ -212,14 +223,15 @@ module _ {t : List ℕ} {cores processes k p : ℕ} (asked : Asked t cores proce
             (sym (run-asks (view t) (wiring (view t)) (choose guards) k p is-idle ∙ ap after-number right))
             (guards-checked t (view t) (choose-rest p guards) (wiring (view t)) p [] guards)
 
-        pub choose-refused : (n ≡ 0 → ⊥) → {r : Reply} → r ≡ refusal n → Does (request (wiring (view t)) (choose guards) k) t r t
-        choose-refused bad e = rw e (stops t n _ _ choose-tested bad)
+        pub choose-refused : (n ≡ 0 → ⊥) → {r : Reply} → r ≡ refusal n → Meets t k (choose guards) r t
+        choose-refused = stops t n _ _ choose-tested
 
         pub choose-does : n ≡ 0 → {r : Reply} {m u : List ℕ} → r ≡ four (yes-with (TAKEN p 0)) → m ≡ begun-table t cores p
-            → u ≡ enabling-table m cores p guards → Does (request (wiring (view t)) (choose guards) k) t r u
+            → u ≡ enabling-table m cores p guards → Meets t k (choose guards) r u
         choose-does good {r} {m} {u} e e′ e″ =
-            subst (λ (z : Ran Answer). Comes z t r u) (sym (passes t n _ _ choose-tested good))
-            (e,
-            e″ ∙ ap (λ (m : List ℕ). enabling-table m cores p guards) e′
-            ∙ on-packing (λ u n. enabling-table (begun-table u n p) n p guards)
-            ∙ choose-law (view t) p (is-idle .low) (is-idle .high) (is-idle .progress) guards few)
+            passes t n _ _ choose-tested good r u (
+              e,
+              e″ ∙ ap (λ (m : List ℕ). enabling-table m cores p guards) e′
+                  ∙ on-packing (λ u n. enabling-table (begun-table u n p) n p guards)
+                  ∙ choose-law (view t) p (is-idle .low) (is-idle .high) (is-idle .progress) guards few,
+            )

@@ -1,5 +1,5 @@
 -- The process that runs on a core of a sound table, and whether it has anything in hand.
-use Prim.Native.Nat.{ℕ, zero, suc, _+_, _≤_, _<_}
+use Prim.Native.Nat.{ℕ, zero, suc, _≤_}
 use mathlib.Core.Path.{_≡_, refl, sym, ap, _∙_, subst}
 use mathlib.Core.Bool.{Bool, true, false}
 use mathlib.Core.List.{List, [], _∷_}
@@ -14,16 +14,14 @@ use Rattle.rules.specs.State.{Progress, nothing, doing, due, Task, no-task, tri
 use Rattle.rules.specs.Items.{no-core, no-process, core-of, process-of}
 use Rattle.rules.specs.Rule.{Ran, run, refused, _>>=_}
 use Rattle.rules.specs.Requests.{Request, request, requester, in-hand, asks}
-use Rattle.rules.specs.Packing.{pack, view, view-core, view-process, progress-from, progress-words, word-at, core-word, process-word, core-at, process-at, K-of, N-of}
+use Rattle.rules.specs.Packing.{view, view-core, view-process, progress-from, progress-words, word-at, core-word, process-word, process-at, K-of, N-of}
 use Rattle.rules.specs.Soundness.{valid-work}
 use Rattle.packing.proofs.Tabulate.{tabulate-at}
 use Rattle.packing.proofs.Reflect.{within-means}
 use Rattle.packing.proofs.ReadLaws.{read-progress}
-use Rattle.parts.specs.Does.{Card, Does}
-use Rattle.parts.proofs.Card.{packed, facts, cores-are, processes-are, card-core, card-process, K-is, N-is}
-use Rattle.answers.specs.Four.{four}
-use Rattle.answers.specs.declared.Reply.{Reply}
-use Rattle.requests.specs.Asked.{HasRunning, asker, refusal}
+use Rattle.parts.specs.Does.{Card}
+use Rattle.parts.proofs.Card.{packed, facts, cores-are, card-core, card-process, N-is}
+use Rattle.requests.specs.Asked.{HasRunning, asker}
 
 -- on core k the process p runs, with nothing in hand
 pub record Idle (s : State) (k p : ℕ) : Type 0 where
@@ -48,7 +46,8 @@ module _ (s : State) (w : Wiring) (x : Request) (k : ℕ) where
   refused-free : (y : Task) → core-of s k .work ≡ free y → run (request w x k) s ≡ refused BUSY
   refused-free y e = ap from-work e
 
-  refused-busy : (p : ℕ) → core-of s k .work ≡ runs p → (process-of s p .progress ≡ nothing → ⊥) → run (request w x k) s ≡ refused BUSY
+  refused-busy : (p : ℕ) → core-of s k .work ≡ runs p → (process-of s p .progress ≡ nothing → ⊥)
+      → run (request w x k) s ≡ refused BUSY
   refused-busy p e busy = ap from-work e ∙ cases (process-of s p .progress) refl
     where
       cases : (y : Progress) → process-of s p .progress ≡ y → from-progress p y ≡ refused BUSY
@@ -117,37 +116,34 @@ module _ (t : List ℕ) (cores processes k : ℕ) (card : Card t cores processes
       record {
         core = card-core t cores processes k card;
         process = λ low.
-          let range = running-range (runner t k) (work-runs (λ e. omega arith)) in
-          card-process t cores processes k card (runner t k) (range .0) (range .1);
+            let range = running-range (runner t k) (work-runs (λ e. omega arith)) in
+            card-process t cores processes k card (runner t k) (range .0) (range .1);
       }
 
-  module _ (p : ℕ) (e : p ≡ asker t cores k) where
-    abbrev found : Bool → Bool → ℕ
-    found none idle = if none then 0 else if idle then runner t k else 0
+  -- Where the code finds no process, every request is refused; any process that it finds has nothing in hand.
+  pub asking : (p : ℕ) → p ≡ asker t cores k
+      → (p ≡ 0 → (w : Wiring) (x : Request) → run (request w x k) (view t) ≡ refused BUSY) × ((p ≡ 0 → ⊥) → Idle (view t) k p)
+  asking p found = cases (eqb q 0) (eqb in-hand 0) refl refl found
+    where
+      q : ℕ
+      q = runner t k
 
-    -- where the code finds no process, the request is refused
-    pub busy : p ≡ 0 → (w : Wiring) (x : Request) → run (request w x k) (view t) ≡ refused BUSY
-    busy z w x = cases (eqb (runner t k) 0) (eqb (word-at t (process-at cores (runner t k) 6)) 0) refl refl e
-      where
-        cases : (a b : Bool) → eqb (runner t k) 0 ≡ a → eqb (word-at t (process-at cores (runner t k) 6)) 0 ≡ b → p ≡ found a b
-            → run (request w x k) (view t) ≡ refused BUSY
-        cases true b f g q = refused-free (view t) w x k (task-of t k) (work-free (eqb-true (runner t k) 0 f))
-        cases false true f g q = absurd (eqb-false (runner t k) 0 f (sym q ∙ z))
-        cases false false f g q =
-            let work = work-runs (eqb-false (runner t k) 0 f) in
-            let range = running-range (runner t k) work in
-            refused-busy (view t) w x k (runner t k) work
-            (progress-some (runner t k) (range .0) (range .1) (eqb-false (word-at t (process-at cores (runner t k) 6)) 0 g))
+      in-hand : ℕ
+      in-hand = word-at t (process-at cores q 6)
 
-    -- any other that it finds has nothing in hand
-    pub idle : (p ≡ 0 → ⊥) → Idle (view t) k p
-    idle nz = cases (eqb (runner t k) 0) (eqb (word-at t (process-at cores (runner t k) 6)) 0) refl refl e
-      where
-        cases : (a b : Bool) → eqb (runner t k) 0 ≡ a → eqb (word-at t (process-at cores (runner t k) 6)) 0 ≡ b → p ≡ found a b → Idle (view t) k p
-        cases true b f g q = absurd (nz q)
-        cases false false f g q = absurd (nz q)
-        cases false true f g q =
-            let work = work-runs (eqb-false (runner t k) 0 f) in
-            let range = running-range (runner t k) work in
-            let progress = progress-none (runner t k) (range .0) (range .1) (eqb-true (word-at t (process-at cores (runner t k) 6)) 0 g) in
-            rw q (record { work = work; progress = progress; low = range .0; high = range .1 })
+      cases : (none idle : Bool) → eqb q 0 ≡ none → eqb in-hand 0 ≡ idle → p ≡ (if none then 0 else if idle then q else 0)
+          → (p ≡ 0 → (w : Wiring) (x : Request) → run (request w x k) (view t) ≡ refused BUSY) × ((p ≡ 0 → ⊥) → Idle (view t) k p)
+      cases true idle f g e = (λ z w x. refused-free (view t) w x k (task-of t k) (work-free (eqb-true q 0 f)), λ some. absurd (some e))
+      cases false true f g e =
+          let work = work-runs (eqb-false q 0 f) in
+          let range = running-range q work in
+          let progress = progress-none q (range .0) (range .1) (eqb-true in-hand 0 g) in (
+            λ z w x. absurd (eqb-false q 0 f (sym e ∙ z)),
+            λ some. rw e (record { work = work; progress = progress; low = range .0; high = range .1 }),
+          )
+      cases false false f g e =
+          let work = work-runs (eqb-false q 0 f) in
+          let range = running-range q work in (
+            λ z w x. refused-busy (view t) w x k q work (progress-some q (range .0) (range .1) (eqb-false in-hand 0 g)),
+            λ some. absurd (some e),
+          )

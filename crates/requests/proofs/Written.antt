@@ -7,7 +7,7 @@ use lib.Dec.{T}
 use lib.ListN.{length, set, length-set}
 use lib.Seq.{sets}
 use borrow.Author.Tests.{lt-ltb}
-use Rattle.rules.specs.State.{Way, sending, receiving, look, enable-look, Progress, nothing, doing, due, go, queued, Process, no-task, free, ended, State}
+use Rattle.rules.specs.State.{Way, sending, receiving, look, enable-look, nothing, doing, due, go, queued, Process, no-task, free, ended, State}
 use Rattle.rules.specs.Items.{no-process, core-of, process-of, put, core, place, data-word, alternation, progress}
 use Rattle.rules.specs.Steps.{with-work, with-active}
 use Rattle.rules.specs.Packing.{padded, progress-words, process-at, pack}
@@ -22,7 +22,8 @@ use Rattle.parts.specs.Shared.{task-table}
 use Rattle.requests.specs.Asked.{look-table, begun-table, enabling-table}
 
 -- core k runs nothing, and has no task
-pub task-law : (s : State) (k : ℕ) → k < length (s .cores) → task-table (pack s) k 0 0 ≡ pack (put core k (with-work (free no-task) (core-of s k)) s)
+pub task-law : (s : State) (k : ℕ) → k < length (s .cores)
+    → task-table (pack s) k 0 0 ≡ pack (put core k (with-work (free no-task) (core-of s k)) s)
 task-law s k inside = put-core s k _ (λ f. f) ((0, 0) ∷ (1, 0) ∷ (2, 0) ∷ []) inside tt refl refl refl
 
 -- the state after p was queued on core k and nothing runs there, as the rules say it
@@ -49,7 +50,7 @@ pub send-law : (s : State) (p : ℕ) → 1 ≤ p → p ≤ length (s .processes)
 send-law s p low high idle c v =
     ap (λ (t : List ℕ). look-table t (length (s .cores)) p 1 c) (put-data-word s p low high v)
     ∙ look-law (put data-word p v s) p low (rw length-set-nth high)
-      (ap (λ (r : Process). r .progress) (nth-set-same (s .processes) p _ no-process low high) ∙ idle) sending c
+    (ap (λ (r : Process). r .progress) (nth-set-same (s .processes) p _ no-process low high) ∙ idle) sending c
 
 -- process p is ended, and core k has neither a process nor a task
 pub end-law : (s : State) (k p : ℕ) → k < length (s .cores) → 1 ≤ p → p ≤ length (s .processes)
@@ -80,7 +81,8 @@ abbrev in-row : ℕ → List ℕ → List (ℕ × ℕ)
 in-row j [] = []
 in-row j (v ∷ vs) = (j, v) ∷ in-row (suc j) vs
 
-writes-in-row : (vs : List ℕ) (j : ℕ) (at : ℕ → ℕ) (t : List ℕ) → ((j : ℕ) → at (suc j) ≡ suc (at j)) → writes (in-row j vs) at t ≡ sets t (at j) vs
+writes-in-row : (vs : List ℕ) (j : ℕ) (at : ℕ → ℕ) (t : List ℕ) → ((j : ℕ) → at (suc j) ≡ suc (at j))
+    → writes (in-row j vs) at t ≡ sets t (at j) vs
 writes-in-row [] j at t next = refl
 writes-in-row (v ∷ vs) j at t next = writes-in-row vs (suc j) at (set t (at j) v) next ∙ ap (λ (i : ℕ). sets (set t (at j) v) i vs) (next j)
 
@@ -132,4 +134,4 @@ pub choose-law : (s : State) (p : ℕ) → 1 ≤ p → p ≤ length (s .processe
 choose-law s p low high idle guards few =
     ap (λ (t : List ℕ). enabling-table t (length (s .cores)) p guards) (begun-law s p low high)
     ∙ enabling-law (put alternation p choice-begun s) p low (rw length-set-nth high)
-      (ap (λ (r : Process). r .progress) (nth-set-same (s .processes) p _ no-process low high) ∙ idle) guards few
+    (ap (λ (r : Process). r .progress) (nth-set-same (s .processes) p _ no-process low high) ∙ idle) guards few

@@ -7,8 +7,8 @@ use lib.ListN.{length, set}
 use lib.Seq.{sets}
 use Rattle.rules.specs.Lists.{if_then_else_, within, member}
 use Rattle.rules.specs.Packing.{word-at, core-at, process-at, channel-at}
-use Rattle.table.specs.Has.{HasCore, HasProcess}
 use Rattle.answers.specs.declared.Reply.{Reply}
+use Rattle.table.specs.Has.{HasCore, HasProcess}
 
 -- the words of core k are in the table, and those of the process that it runs
 pub record HasRunning (t : List ℕ) (cores k : ℕ) : Type 0 where

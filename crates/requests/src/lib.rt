@@ -1,6 +1,6 @@
 // The requests (document 01): what the running process of core k does next, on a sound table.
 ghost use mathlib.Core.Path.{_≡_};
-ghost use Prim.Native.Nat.{ℕ, _+_, _*_, _-_, _≤_, _<_};
+ghost use Prim.Native.Nat.{_+_, _*_, _≤_, _<_};
 ghost use mathlib.Core.List.{[]};
 ghost use lib.ListN.{length, getD, take};
 ghost use lib.Seq.{sets};
@@ -30,21 +30,29 @@ fn requester(t: &[u32], cores: usize, k: usize) -> u32
 }
 
 // Why process p may not stand at the end f (0 writer, 1 reader) of channel c; 0 where it may.
-fn end_refusal(t: &[u32], cores: usize, processes: usize, channels: u32, p: u32, f: usize, c: u32) -> u32
+fn end_refusal(
+    t: &[u32],
+    cores: usize,
+    processes: usize,
+    channels: u32,
+    p: u32,
+    f: usize,
+    c: u32,
+) -> u32
     requires { ⌜ f < 4 ⌝ ∗ ⌜ 8 + 16 * cores + 24 * processes + 4 * channels ≤ length (now t) ⌝ }
     ensures { λ r. ⌜ r ≡ end-refusal (now (t .entry)) cores processes channels p f c ⌝ }
 {
     if c == 0 {
         return answers::CHANNEL;
     }
-    if c > channels {
-        return answers::CHANNEL;
-    }
-    let owner = table::channel_word(t, cores, processes, c, f);
-    if owner != p {
+    if c <= channels {
+        let owner = table::channel_word(t, cores, processes, c, f);
+        if owner == p {
+            return 0;
+        }
         return answers::OTHER_END;
     }
-    0
+    answers::CHANNEL
 }
 
 // The request of process p starts at the look of this number (1 of send, 6 of receive), at channel c.
@@ -58,7 +66,15 @@ fn begin_look(t: &mut [u32], cores: usize, p: u32, number: u32, c: u32)
 }
 
 // Send stores the value in the process's data word, and starts at look.
-pub fn send(t: &mut [u32], cores: usize, processes: usize, channels: u32, k: usize, c: u32, v: u32) -> Reply
+pub fn send(
+    t: &mut [u32],
+    cores: usize,
+    processes: usize,
+    channels: u32,
+    k: usize,
+    c: u32,
+    v: u32,
+) -> Reply
     requires { ⌜ Card (now t) cores processes k ⌝ ∗ ⌜ channels ≡ M-of (now t) ⌝ }
     ensures { λ r. ⌜ Does (request (wiring (view (now (t .entry)))) (send c v) k) (now (t .entry)) r (now (t .exit)) ⌝ }
 {
@@ -76,7 +92,14 @@ pub fn send(t: &mut [u32], cores: usize, processes: usize, channels: u32, k: usi
 }
 
 // Receive starts at look.
-pub fn receive(t: &mut [u32], cores: usize, processes: usize, channels: u32, k: usize, c: u32) -> Reply
+pub fn receive(
+    t: &mut [u32],
+    cores: usize,
+    processes: usize,
+    channels: u32,
+    k: usize,
+    c: u32,
+) -> Reply
     requires { ⌜ Card (now t) cores processes k ⌝ ∗ ⌜ channels ≡ M-of (now t) ⌝ }
     ensures { λ r. ⌜ Does (request (wiring (view (now (t .entry)))) (receive c) k) (now (t .entry)) r (now (t .exit)) ⌝ }
 {
@@ -108,7 +131,14 @@ fn stands_before(guards: &[u32], i: usize) -> bool
 }
 
 // Why process p may not choose over these guards, guard by guard; 0 where it may.
-fn guards_refusal(t: &[u32], cores: usize, processes: usize, channels: u32, p: u32, guards: &[u32]) -> u32
+fn guards_refusal(
+    t: &[u32],
+    cores: usize,
+    processes: usize,
+    channels: u32,
+    p: u32,
+    guards: &[u32],
+) -> u32
     requires { ⌜ 8 + 16 * cores + 24 * processes + 4 * channels ≤ length (now t) ⌝ }
     ensures { λ r. ⌜ r ≡ guards-refusal (end-refusal (now (t .entry)) cores processes channels p 1) [] (now (guards .entry)) ⌝ }
 {
@@ -165,7 +195,14 @@ fn begin_enabling(t: &mut [u32], cores: usize, p: u32, guards: &[u32])
 }
 
 // Choose sets enabling and not-ready, count 1, waiting clear, and starts enabling at the first guard.
-pub fn choose(t: &mut [u32], cores: usize, processes: usize, channels: u32, k: usize, guards: &[u32]) -> Reply
+pub fn choose(
+    t: &mut [u32],
+    cores: usize,
+    processes: usize,
+    channels: u32,
+    k: usize,
+    guards: &[u32],
+) -> Reply
     requires { ⌜ Card (now t) cores processes k ⌝ ∗ ⌜ channels ≡ M-of (now t) ⌝ }
     ensures { λ r. ⌜ Does (request (wiring (view (now (t .entry)))) (choose (now (guards .entry))) k) (now (t .entry)) r (now (t .exit)) ⌝ }
 {

@@ -64,8 +64,8 @@ module _ {t : List ℕ} {cores processes k : ℕ} (free : Free t cores processes
       let members = free-order free .members k (free-inside free) in
       let n = length (view t .processes) in
       let batches = no-batch n (core-of (view t) k .run-queue) (free-order free .batches k (free-inside free))
-              (both (all (within 1 n) (core-of (view t) k .active)) (all (all (within 1 n)) (core-of (view t) k .run-queue)) members .1)
-              (sym (free-read free 8 (lit< tt)) ∙ no-heads) in
+      (both (all (within 1 n) (core-of (view t) k .active)) (all (all (within 1 n)) (core-of (view t) k .run-queue)) members .1)
+      (sym (free-read free 8 (lit< tt)) ∙ no-heads) in
       subst (λ x. Comes x t r t) (sym (idle.idles (view t) k (free .work) (is-empty no-active) batches)) (reply, free-packs free .is-pack)
 
 module _ {t : List ℕ} {cores processes k : ℕ} (pre : Loads t cores processes k) where
@@ -90,8 +90,8 @@ module _ {t : List ℕ} {cores processes k : ℕ} (pre : Loads t cores processes
       let c = with-queues (batches .0) (batches .1) (core-of (view t) k) in
       let inside = free-inside (pre .free) in
       let after : u ≡ pack (put core k c (view t)) =
-              wrote ∙ as-packed (λ t n. load-table t n k)
-              (load-law (view t) k (batches .0) (batches .1) inside (free-order (pre .free)) (is-empty (pre .free) (pre .empty)) (batches .2)) in
+      wrote ∙ as-packed (λ t n. load-table t n k)
+      (load-law (view t) k (batches .0) (batches .1) inside (free-order (pre .free)) (is-empty (pre .free) (pre .empty)) (batches .2)) in
       read ∙ ap (λ (u : List ℕ). word-at u (core-at k 5)) after
       ∙ read-core (put core k c (view t)) k 5 (subst (λ (n : ℕ). k < n) (sym (length-set (view t .cores) k c)) inside) (lit< tt)
       ∙ ap (λ (c : Core). length (c .active)) (getD-set-same (view t .cores) k c no-core inside)
@@ -100,10 +100,12 @@ module _ {t : List ℕ} {cores processes k : ℕ} (pre : Loads t cores processes
       → r ≡ four (yes-with MOVED) → u ≡ loaded-table t cores k n m → Does (step k) t r u
   load-does {n} {m} {r} {u} count mark reply wrote =
       let empty = is-empty (pre .free) (pre .empty) in
-      subst (λ x. Comes x t r u) (sym (idle.loads (view t) k (pre .free .work) (batches .0) (batches .1) empty (batches .2)))
-      (reply, wrote ∙ (λ i. loaded-table t cores k (count i) (mark i))
-      ∙ as-packed (λ t n. loaded-table t n k (min 32 (4 * length (batches .0))) (bit (eqb (length (batches .0)) 1)))
-      (load-step-law (view t) k (free-inside (pre .free)) (free-order (pre .free)) _ _ (batches .0) (batches .1) empty (batches .2)))
+      subst (λ x. Comes x t r u) (sym (idle.loads (view t) k (pre .free .work) (batches .0) (batches .1) empty (batches .2))) (
+        reply,
+        wrote ∙ (λ i. loaded-table t cores k (count i) (mark i))
+            ∙ as-packed (λ t n. loaded-table t n k (min 32 (4 * length (batches .0))) (bit (eqb (length (batches .0)) 1)))
+            (load-step-law (view t) k (free-inside (pre .free)) (free-order (pre .free)) _ _ (batches .0) (batches .1) empty (batches .2)),
+      )
 
   pub can-load-first : {p : ℕ} → p ≡ word-at t (core-at k 8) → CanLoad t cores k p
   can-load-first e = subst (CanLoad t cores k) (sym e) can-load-head

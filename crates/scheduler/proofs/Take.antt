@@ -7,8 +7,35 @@ use lib.Dec.{T, lit≤, lit<}
 use lib.ListN.{length, getD, set, length-set}
 use Rattle.rules.specs.Numbers.{MOVED, GOT, yes-with}
 use Rattle.rules.specs.State.{
-  running, sending, receiving, Stage, look, park, copy, clear, wake, enable-look, raise, place-name, ready-from-look, ready-from-place, wait, disable,
-  lower, finish, Outcome, go, sent, got, chose, Progress, nothing, doing, due, Task, State
+  running,
+  sending,
+  receiving,
+  Stage,
+  look,
+  park,
+  copy,
+  clear,
+  wake,
+  enable-look,
+  raise,
+  place-name,
+  ready-from-look,
+  ready-from-place,
+  wait,
+  disable,
+  lower,
+  finish,
+  Outcome,
+  go,
+  sent,
+  got,
+  chose,
+  Progress,
+  nothing,
+  doing,
+  due,
+  Task,
+  State,
 }
 use Rattle.rules.specs.Items.{core-of, process-of, core, place, put}
 use Rattle.rules.specs.Rule.{run}
@@ -75,8 +102,8 @@ module _ {u : List ℕ} {cores processes : ℕ} {s : State} (packs : Packs u cor
   -- or it answers its outcome
   pub answers-outcome : (low : 1 ≤ p) (high : p ≤ length (s .processes)) (x : Progress) → 20 ≤ getD (progress-words x) 0 0
       → Comes (run (taken p x) s) t
-          (four (yes-with (reported (getD (progress-words x) 0 0) p (getD (progress-words x) 1 0) (getD u (process-at cores p 1) 0))))
-          (cleared u cores p)
+      (four (yes-with (reported (getD (progress-words x) 0 0) p (getD (progress-words x) 1 0) (getD u (process-at cores p 1) 0))))
+      (cleared u cores p)
   unfolding progress-words
   answers-outcome low high nothing h = absurd (omega arith)
   answers-outcome low high (doing x) h = absurd (omega (arith, stage-number x))
@@ -182,7 +209,7 @@ module _ {t : List ℕ} {cores processes k : ℕ} (pre : Takes t cores processes
         let number : num ≡ getD (progress-words x) 0 0 = num-is ∙ word-read 0 (lit< tt) in
         let channel : c ≡ getD (progress-words x) 1 0 = c-is ∙ word-read 1 (lit< tt) in
         let said : r ≡ four (yes-with (reported (getD (progress-words x) 0 0) q (getD (progress-words x) 1 0) (getD u (process-at cores q 1) 0))) =
-            reply ∙ (λ i. four (yes-with (reported (number i) (head i) (channel i) (getD u (process-at cores (head i) 1) 0)))) in
+        reply ∙ (λ i. four (yes-with (reported (number i) (head i) (channel i) (getD u (process-at cores (head i) 1) 0)))) in
         comes n above r v (subst₂ (λ (r : Reply) (v : List ℕ). Comes (run (taken q x) (after n)) t r v) (sym said)
         (sym (cleared-is ∙ ap (λ (p : ℕ). cleared u cores p) head))
         (answers-outcome packs t q (stands .low) high x (subst (λ (m : ℕ). 20 ≤ m) number large)))

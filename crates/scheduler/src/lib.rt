@@ -11,7 +11,6 @@ ghost use Rattle.table.specs.Has.{HasCore, HasProcess};
 ghost use Rattle.parts.specs.Does.{Does};
 ghost use Rattle.queues.specs.Fits.{CanTake, CanLoad};
 ghost use Rattle.scheduler.specs.Free.{Free, Takes, Stores, Loads, taken-table, loaded-table};
-
 use answers::Reply;
 
 // The first process p of the active queue runs, and the dispatch count is n.
@@ -66,22 +65,14 @@ fn store_queue(t: &mut [u32], cores: usize, processes: usize, k: usize) -> Reply
 fn dispatch_count(size: u32) -> u32
     ensures { λ r. ⌜ r ≡ min 32 (4 * size) ⌝ }
 {
-    if size < 8 {
-        4 * size
-    } else {
-        32
-    }
+    if size < 8 { 4 * size } else { 32 }
 }
 
 // The mark is set exactly if the size is 1.
 fn single_mark(size: u32) -> u32
     ensures { λ r. ⌜ r ≡ bit (eqb size 1) ⌝ }
 {
-    if size == 1 {
-        1
-    } else {
-        0
-    }
+    if size == 1 { 1 } else { 0 }
 }
 
 // Load the first batch.

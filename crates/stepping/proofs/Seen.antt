@@ -10,12 +10,63 @@ use lib.ListN.{length, getD, take}
 use borrow.Author.Tests.{eq-eqb, ne-eqb}
 use Rattle.rules.specs.Lists.{tabulate, nth}
 use Rattle.rules.specs.State.{
-  Place, running, queued, asleep, ended, sending, receiving, look, park, copy, clear, wake, enable-look, raise, place-name, ready-from-look,
-  ready-from-place, wait, disable, lower, finish, go, sent, got, chose, Progress, nothing, doing, due, Process, no-task, trigger, wake-up, Work, runs, free, Core, State
+  Place,
+  running,
+  queued,
+  asleep,
+  ended,
+  sending,
+  receiving,
+  look,
+  park,
+  copy,
+  clear,
+  wake,
+  enable-look,
+  raise,
+  place-name,
+  ready-from-look,
+  ready-from-place,
+  wait,
+  disable,
+  lower,
+  finish,
+  go,
+  sent,
+  got,
+  chose,
+  Progress,
+  nothing,
+  doing,
+  due,
+  Process,
+  no-task,
+  trigger,
+  wake-up,
+  Work,
+  runs,
+  free,
+  Core,
+  State,
 }
 use Rattle.rules.specs.Items.{no-core, no-process, core-of, process-of}
 use Rattle.rules.specs.Packing.{
-  pack, view, view-core, view-process, K-of, N-of, core-at, process-at, core-word, process-word, work-from, progress-from, ready-from, place-from, place-number, progress-words
+  pack,
+  view,
+  view-core,
+  view-process,
+  K-of,
+  N-of,
+  core-at,
+  process-at,
+  core-word,
+  process-word,
+  work-from,
+  progress-from,
+  ready-from,
+  place-from,
+  place-number,
+  progress-words,
 }
 use Rattle.rules.specs.Soundness.{sound, on-cores, in-queues, runs-it, fits, stands}
 use Rattle.packing.proofs.Tabulate.{tabulate-at}
@@ -42,6 +93,6 @@ module _ (t : List ℕ) where
   pub progress-seen : (p : ℕ) → 1 ≤ p → p ≤ N-of t
       → process-of (view t) p .progress
       ≡ progress-from (process-word t p 6) (process-word t p 7) (process-word t p 8) (take (process-word t p 9) (tabulate (process-word t p) 12 8))
-          (process-word t p 10) (ready-from (process-word t p 11))
+      (process-word t p 10) (ready-from (process-word t p 11))
   unfolding view-process
   progress-seen p low high = ap (λ (r : Process). r .progress) (process-seen p low high)

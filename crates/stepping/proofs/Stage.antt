@@ -10,8 +10,35 @@ use lib.ListN.{length, getD, take, List·getD-eq-default}
 use Rattle.rules.specs.Lists.{tabulate}
 use Rattle.rules.specs.Numbers.{Answer, AWAITED, no-because}
 use Rattle.rules.specs.State.{
-  Way, sending, receiving, Stage, look, park, copy, clear, wake, enable-look, raise, place-name, ready-from-look, ready-from-place, wait, disable, lower,
-  finish, Outcome, go, sent, got, chose, Progress, nothing, doing, due, Work, wiring
+  Way,
+  sending,
+  receiving,
+  Stage,
+  look,
+  park,
+  copy,
+  clear,
+  wake,
+  enable-look,
+  raise,
+  place-name,
+  ready-from-look,
+  ready-from-place,
+  wait,
+  disable,
+  lower,
+  finish,
+  Outcome,
+  go,
+  sent,
+  got,
+  chose,
+  Progress,
+  nothing,
+  doing,
+  due,
+  Work,
+  wiring,
 }
 use Rattle.rules.specs.Items.{core-of, process-of}
 use Rattle.rules.specs.Rule.{Ran, run}
@@ -91,15 +118,15 @@ module _ {t : List ℕ} {cores processes k p : ℕ} (running : Running t cores p
   progress-is n e =
       let in-range : p ≤ N-of t = subst (λ (m : ℕ). p ≤ m) (sym (N-is t (running .card .is-sound))) (range .1) in
       subst (λ (m : ℕ). process-of (view t) p .progress
-          ≡ progress-from n (getD t (process-at m p 7) 0) (getD t (process-at m p 8) 0)
-              (take (getD t (process-at m p 9) 0) (tabulate (λ f. getD t (process-at m p f) 0) 12 8)) (getD t (process-at m p 10) 0)
-              (ready-from (getD t (process-at m p 11) 0)))
+      ≡ progress-from n (getD t (process-at m p 7) 0) (getD t (process-at m p 8) 0)
+      (take (getD t (process-at m p 9) 0) (tabulate (λ f. getD t (process-at m p f) 0) 12 8)) (getD t (process-at m p 10) 0)
+      (ready-from (getD t (process-at m p 11) 0)))
       (sym (running .card .all-cores))
       (progress-seen t p (range .0) in-range
       ∙ ap (λ (n : ℕ). progress-from n (getD t (process-at (K-of t) p 7) 0) (getD t (process-at (K-of t) p 8) 0)
-          (take (getD t (process-at (K-of t) p 9) 0) (tabulate (λ f. getD t (process-at (K-of t) p f) 0) 12 8))
-          (getD t (process-at (K-of t) p 10) 0) (ready-from (getD t (process-at (K-of t) p 11) 0)))
-        (ap (λ (m : ℕ). getD t (process-at m p 6) 0) (sym (running .card .all-cores)) ∙ sym e))
+      (take (getD t (process-at (K-of t) p 9) 0) (tabulate (λ f. getD t (process-at (K-of t) p f) 0) 12 8))
+      (getD t (process-at (K-of t) p 10) 0) (ready-from (getD t (process-at (K-of t) p 11) 0)))
+      (ap (λ (m : ℕ). getD t (process-at m p 6) 0) (sym (running .card .all-cores)) ∙ sym e))
 
   -- the step of the core is that of the running process's progress
   stepped : {x : Progress} → process-of (view t) p .progress ≡ x → run (step k) (view t) ≡ run (running-step k p x) (view t)

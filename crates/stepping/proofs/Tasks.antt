@@ -79,7 +79,7 @@ module _ {t : List ℕ} {cores processes k : ℕ} (card : Card t cores processes
     is-wake a b =
         let inside : k < length (view t .cores) = let e = cores-are t cores processes k card in let h = card .inside in omega arith in
         let read : getD t (core-at k 1) 0 ≡ getD (work-words (core-of (view t) k .work)) 1 0 =
-                ap (λ (u : List ℕ). getD u (core-at k 1) 0) (packed t (card .is-sound)) ∙ read-core (view t) k 1 inside (lit< tt) in
+        ap (λ (u : List ℕ). getD u (core-at k 1) 0) (packed t (card .is-sound)) ∙ read-core (view t) k 1 inside (lit< tt) in
         let two : task ≡ 2 = omega (arith, task-number (core-of (view t) k .work)) in
         record { card = card; work = task-of ∙ ap (λ n. free (getD (no-task ∷ trigger q ∷ wake-up q ∷ []) n no-task)) two }
 
@@ -124,8 +124,10 @@ module _ {t : List ℕ} {cores processes k q : ℕ} (pre : Free t cores processe
         cases running e = absurd (let z = ap place-number e in omega (arith, place-is))
         cases queued e = absurd (let z = ap place-number e in omega (arith, place-is))
         cases asleep e =
-            by-place asleep e r u
-            (reply, tasked ∙ ap (λ (w : List ℕ). task-table w k 0 0) pushed
-            ∙ task-written (joined packs k (free-inside pre) (free-order pre) q is) k
-              (subst (λ (m : ℕ). k < m) (sym (length-set (view t .cores) k _)) (free-inside pre)) no-task 0 0 refl .is-pack)
+            by-place asleep e r u (
+              reply,
+              tasked ∙ ap (λ (w : List ℕ). task-table w k 0 0) pushed
+                  ∙ task-written (joined packs k (free-inside pre) (free-order pre) q is) k
+                  (subst (λ (m : ℕ). k < m) (sym (length-set (view t .cores) k _)) (free-inside pre)) no-task 0 0 refl .is-pack,
+            )
         cases ended e = absurd (let z = ap place-number e in omega (arith, place-is))

@@ -9,12 +9,19 @@ ghost use Rattle.parts.specs.Does.{Card, Does, of-way};
 ghost use Rattle.parts.specs.Ways.{which};
 ghost use Rattle.scheduler.specs.Free.{Free};
 ghost use Rattle.stepping.specs.Running.{Running};
-
 use answers::Reply;
 use parts::Way;
 
 // A stage of send or receive: n is 1 look, 2 park, 3 copy, 4 clear, 5 wake.
-fn exchange(t: &mut [u32], cores: usize, processes: usize, k: usize, p: u32, way: Way, n: u32) -> Reply
+fn exchange(
+    t: &mut [u32],
+    cores: usize,
+    processes: usize,
+    k: usize,
+    p: u32,
+    way: Way,
+    n: u32,
+) -> Reply
     requires { ⌜ Running (now t) cores processes k p ⌝ ∗ ⌜ of-way (which way) n ≡ getD (now t) (process-at cores p 6) 0 ⌝ ∗ ⌜ (1 ≤ n) × (n ≤ 5) ⌝ }
     ensures { λ r. ⌜ Does (step k) (now (t .entry)) r (now (t .exit)) ⌝ }
 {

@@ -42,9 +42,10 @@ same-length-2 c = search needs
 
 returns-2 : tie.Need-returns-2
 returns-2 c =
-    let went = c .before .before in
-    let pre = went .before .before .before .before .before .before .before .before .before .before .before .before .before .pre in
-    trigger-waited (pre .0) (pre .1) (omega arith) (λ e. omega arith) (went .next-task .ensures .1) (cc)
+    let pre = c .before .before .before .before .before .before .before .before .before .before .before .before .before .before .before .pre in
+    trigger-waited (pre .0) (pre .1) (omega arith) (λ e. omega arith)
+    (c .before .before .before .before .before .before .before .before .before .before .before .before .process-word .ensures) (c .before .before .before .before .before .before .before .set-triggered .ensures)
+    (c .before .before .next-task .ensures .1) (c .before .before .next-task .ensures .0)
 
 next-task-requires-2 : tie.Need-next-task-requires-2
 next-task-requires-2 c κs =
@@ -56,9 +57,10 @@ same-length-3 c = search needs
 
 returns-3 : tie.Need-returns-3
 returns-3 c =
-    let went = c .before .before in
-    let pre = went .before .before .before .before .before .before .before .before .before .before .before .before .before .before .pre in
-    trigger-last (pre .0) (pre .1) (omega arith) (λ e. omega arith) (went .next-task2 .ensures .1) (cc)
+    let pre = c .before .before .before .before .before .before .before .before .before .before .before .before .before .before .before .before .pre in
+    trigger-last (pre .0) (pre .1) (omega arith) (λ e. omega arith)
+    (c .before .before .before .before .before .before .before .before .before .before .before .before .before .process-word .ensures) (c .before .before .before .before .before .before .before .before .set-triggered .ensures)
+    (c .before .before .next-task2 .ensures .1) (c .before .before .next-task2 .ensures .0)
 
 next-task-requires-3 : tie.Need-next-task-requires-3
 next-task-requires-3 c κs =
@@ -70,9 +72,10 @@ same-length-4 c = search needs
 
 returns-4 : tie.Need-returns-4
 returns-4 c =
-    let went = c .before .before in
-    let pre = went .before .before .before .before .before .before .before .before .before .before .before .before .before .before .pre in
-    trigger-over (pre .0) (pre .1) (λ e. omega arith) (λ e. omega arith) (λ e. omega arith) (went .next-task3 .ensures .1) (cc)
+    let pre = c .before .before .before .before .before .before .before .before .before .before .before .before .before .before .before .before .pre in
+    trigger-over (pre .0) (pre .1) (λ e. omega arith) (λ e. omega arith) (λ e. omega arith)
+    (c .before .before .before .before .before .before .before .before .before .before .before .before .before .process-word .ensures) (c .before .before .before .before .before .before .before .before .set-triggered .ensures)
+    (c .before .before .next-task3 .ensures .1) (c .before .before .next-task3 .ensures .0)
 
 pub trigger-choice-spec : {M : Type 1} → statement M
 trigger-choice-spec =

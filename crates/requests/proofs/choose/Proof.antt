@@ -1,9 +1,9 @@
 -- The alternation state and the stage with its guards are written after the tests of the rule.
 use mathlib.Core.Path.{refl}
+use borrow.Author.Needs.{needs}
 use Rattle.rules.specs.Requests.{choose}
 use Rattle.requests.proofs.Running.{has-running}
 use Rattle.requests.proofs.Meets.{Found, Asked, ends-fit, busy-does, asked-process, none-refused, many-refused, choose-refused, choose-does}
-use borrow.Author.Needs.{needs}
 use Rattle.requests.proofs.choose.Statement.{statement}
 use Rattle.requests.proofs.choose.Tie as tie
 

@@ -54,10 +54,11 @@ loop-less c = omega arith
 loop-again : tie.Need-loop-again Inv-loop μ-loop
 loop-again c =
     let now = c .before .before .loop in
-    let a = c .before .before .before .args in
-    (omega arith,
-    length-set (now .t) (a .at + now .i) _ ∙ now .inv .1,
-    now .inv .2 ∙ next-word (now .t) (a .words .now) (a .at) (now .i) (omega arith))
+    let a = c .before .before .before .args in (
+      omega arith,
+      length-set (now .t) (a .at + now .i) _ ∙ now .inv .1,
+      now .inv .2 ∙ next-word (now .t) (a .words .now) (a .at) (now .i) (omega arith),
+    )
 
 same-length : tie.Need-same-length Inv-loop μ-loop
 same-length c = c .before .loop .inv .1

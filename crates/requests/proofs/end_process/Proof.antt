@@ -1,9 +1,9 @@
 -- The place and the work are written after the test of the rule.
 use mathlib.Core.Path.{refl}
+use borrow.Author.Needs.{needs}
 use Rattle.rules.specs.Requests.{end}
 use Rattle.requests.proofs.Running.{has-running}
 use Rattle.requests.proofs.Meets.{Found, Asked, same-core, busy-does, asked-process, end-does}
-use borrow.Author.Needs.{needs}
 use Rattle.requests.proofs.end_process.Statement.{statement}
 use Rattle.requests.proofs.end_process.Tie as tie
 

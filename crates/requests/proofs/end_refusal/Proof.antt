@@ -1,12 +1,11 @@
 -- The tests are those of the definition.
-use Prim.Native.Nat.{_≤_}
-use mathlib.Core.Path.{_≡_, sym, _∙_}
+use mathlib.Core.Path.{_≡_}
 use mathlib.Core.Bool.{true, false}
 use native.Mathlib.Omega.{arith}
 use lib.Dec.{eqb, leb}
 use borrow.Author.Tests.{eq-eqb, ne-eqb, le-leb, lt-leb}
-use Rattle.rules.specs.Packing.{word-at, channel-at}
 use borrow.Author.Needs.{needs}
+use Rattle.rules.specs.Packing.{word-at, channel-at}
 use Rattle.requests.proofs.end_refusal.Statement.{statement}
 use Rattle.requests.proofs.end_refusal.Tie as tie
 
@@ -16,15 +15,17 @@ returns c =
     let low : leb 1 (a .c) ≡ false = lt-leb 1 (a .c) (omega arith) in
     rw low
 
-returns-2 : tie.Need-returns-2
-returns-2 c =
-    let a = c .before .before .before .args in
-    let low : leb 1 (a .c) ≡ true = le-leb 1 (a .c) (omega arith) in
-    let high : leb (a .c) (a .channels) ≡ false = lt-leb (a .c) (a .channels) (omega arith) in
-    rw (low, high)
-
 channel-word-requires : tie.Need-channel-word-requires
 channel-word-requires c κs = search needs
+
+returns-2 : tie.Need-returns-2
+returns-2 c =
+    let a = c .before .before .before .before .before .args in
+    let low : leb 1 (a .c) ≡ true = le-leb 1 (a .c) (omega arith) in
+    let high : leb (a .c) (a .channels) ≡ true = le-leb (a .c) (a .channels) (omega arith) in
+    let owner = word-at (a .t .now) (channel-at (a .cores) (a .processes) (a .c) (a .f)) in
+    let own : eqb owner (a .p) ≡ true = eq-eqb owner (a .p) (omega arith) in
+    rw (low, high, own)
 
 returns-3 : tie.Need-returns-3
 returns-3 c =
@@ -37,12 +38,10 @@ returns-3 c =
 
 returns-4 : tie.Need-returns-4
 returns-4 c =
-    let a = c .before .before .before .before .before .args in
+    let a = c .before .before .before .args in
     let low : leb 1 (a .c) ≡ true = le-leb 1 (a .c) (omega arith) in
-    let high : leb (a .c) (a .channels) ≡ true = le-leb (a .c) (a .channels) (omega arith) in
-    let owner = word-at (a .t .now) (channel-at (a .cores) (a .processes) (a .c) (a .f)) in
-    let own : eqb owner (a .p) ≡ true = eq-eqb owner (a .p) (omega arith) in
-    rw (low, high, own)
+    let high : leb (a .c) (a .channels) ≡ false = lt-leb (a .c) (a .channels) (omega arith) in
+    rw (low, high)
 
 pub end-refusal-spec : {M : Type 1} → statement M
-end-refusal-spec = tie.close (tie.spec returns returns-2 channel-word-requires returns-3 returns-4)
+end-refusal-spec = tie.close (tie.spec returns channel-word-requires returns-2 returns-3 returns-4)

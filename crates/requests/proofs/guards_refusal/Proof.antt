@@ -1,9 +1,8 @@
 -- What the guards passed leave to be tested is what was to be tested at first.
-use Prim.Native.Nat.{ℕ, _-_, _≤_}
+use Prim.Native.Nat.{_-_, _≤_}
 use mathlib.Core.Path.{_≡_, refl, sym, _∙_}
 use mathlib.Core.List.{[]}
 use native.Mathlib.Omega.{arith}
-use lib.Dec.{lit<}
 use lib.ListN.{length}
 use Rattle.requests.specs.Asked.{end-refusal, guards-refusal}
 use Rattle.requests.proofs.Guards.{left, none-left, bad-end, twice, next-left}
@@ -50,7 +49,7 @@ returns-2 c =
     let stands = c .before .stands-before in
     sym (now .inv .1
     ∙ twice end (a .guards .now) (now .i) (tested .result) (omega arith) (tested .ensures) (c .before .before .if1 .left)
-      (stands .result) (stands .ensures) (c .if2 .taken))
+    (stands .result) (stands .ensures) (c .if2 .taken))
 
 add-i : tie.Need-add-i Inv-loop μ-loop
 add-i c = omega arith
@@ -64,11 +63,12 @@ loop-again c =
     let a = c .before .before .before .before .before .before .before .before .before .args in
     let end = end-refusal (a .t .now) (a .cores) (a .processes) (a .channels) (a .p) 1 in
     let tested = c .before .before .before .end-refusal in
-    let stands = c .before .stands-before in
-    (omega arith,
-    now .inv .1
-    ∙ next-left end (a .guards .now) (now .i) (tested .result) (omega arith) (tested .ensures) (c .before .before .if1 .left)
-      (stands .result) (stands .ensures) (c .if2 .left))
+    let stands = c .before .stands-before in (
+      omega arith,
+      now .inv .1
+          ∙ next-left end (a .guards .now) (now .i) (tested .result) (omega arith) (tested .ensures) (c .before .before .if1 .left)
+          (stands .result) (stands .ensures) (c .if2 .left),
+    )
 
 returns-3 : tie.Need-returns-3 Inv-loop μ-loop
 returns-3 c =

@@ -1,10 +1,10 @@
 -- The stage and the channel are written after the tests of the rule.
 use mathlib.Core.Path.{refl}
 use lib.Dec.{lit<}
+use borrow.Author.Needs.{needs}
 use Rattle.rules.specs.Requests.{receive}
 use Rattle.requests.proofs.Running.{has-running}
 use Rattle.requests.proofs.Meets.{Found, Asked, ends-fit, busy-does, asked-process, receive-refused, receive-does}
-use borrow.Author.Needs.{needs}
 use Rattle.requests.proofs.receive.Statement.{statement}
 use Rattle.requests.proofs.receive.Tie as tie
 

@@ -1,12 +1,12 @@
 -- The tests of the two words are those of the definition.
-use mathlib.Core.Path.{_≡_, sym, _∙_}
+use mathlib.Core.Path.{_≡_}
 use mathlib.Core.Bool.{true, false}
 use native.Mathlib.Omega.{arith}
 use lib.Dec.{eqb}
 use borrow.Author.Tests.{eq-eqb, ne-eqb}
+use borrow.Author.Needs.{needs}
 use Rattle.rules.specs.Packing.{word-at, core-at, process-at}
 use Rattle.table.specs.Has.{HasProcess}
-use borrow.Author.Needs.{needs}
 use Rattle.requests.proofs.requester.Statement.{statement}
 use Rattle.requests.proofs.requester.Tie as tie
 

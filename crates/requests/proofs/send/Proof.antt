@@ -1,10 +1,10 @@
 -- The value, the stage and the channel are written after the tests of the rule.
 use mathlib.Core.Path.{refl}
 use lib.Dec.{lit<}
+use borrow.Author.Needs.{needs}
 use Rattle.rules.specs.Requests.{send}
 use Rattle.requests.proofs.Running.{has-running}
 use Rattle.requests.proofs.Meets.{Found, Asked, ends-fit, busy-does, asked-process, send-refused, send-does}
-use borrow.Author.Needs.{needs}
 use Rattle.requests.proofs.send.Statement.{statement}
 use Rattle.requests.proofs.send.Tie as tie
 

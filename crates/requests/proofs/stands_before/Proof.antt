@@ -1,8 +1,7 @@
 -- None of the guards passed is guard i.
-use Prim.Native.Nat.{ℕ, _-_, _≤_, _<_}
-use mathlib.Core.Path.{_≡_, refl, sym, ap, _∙_}
+use Prim.Native.Nat.{_-_, _≤_, _<_}
+use mathlib.Core.Path.{_≡_, refl, sym}
 use mathlib.Core.Bool.{false}
-use mathlib.Core.List.{List}
 use native.Mathlib.Omega.{arith}
 use lib.ListN.{length, getD, take}
 use Rattle.rules.specs.Lists.{member}
@@ -46,10 +45,11 @@ loop-less c = omega arith
 loop-again : tie.Need-loop-again Inv-loop μ-loop
 loop-again c =
     let now = c .before .before .before .before .loop in
-    let a = c .before .before .before .before .before .args in
-    (omega arith,
-    omega arith,
-    not-yet (a .guards .now) (now .j) (getD (a .guards .now) (a .i) 0) (omega arith) (now .inv .2) (c .if1 .left))
+    let a = c .before .before .before .before .before .args in (
+      omega arith,
+      omega arith,
+      not-yet (a .guards .now) (now .j) (getD (a .guards .now) (a .i) 0) (omega arith) (now .inv .2) (c .if1 .left),
+    )
 
 returns-2 : tie.Need-returns-2 Inv-loop μ-loop
 returns-2 c =

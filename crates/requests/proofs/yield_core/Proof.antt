@@ -1,9 +1,9 @@
 -- The outcome, the queue and the work are written after the test of the rule.
 use mathlib.Core.Path.{refl, _∙_}
+use borrow.Author.Needs.{needs}
 use Rattle.rules.specs.Requests.{yield}
 use Rattle.requests.proofs.Running.{has-running}
 use Rattle.requests.proofs.Meets.{Found, Asked, same-core, busy-does, asked-process, yield-joins, yield-does}
-use borrow.Author.Needs.{needs}
 use Rattle.requests.proofs.yield_core.Statement.{statement}
 use Rattle.requests.proofs.yield_core.Tie as tie
 

@@ -34,7 +34,7 @@ same-length : tie.Need-same-length
 same-length c = search needs
 
 returns : tie.Need-returns
-returns c = 
+returns c =
     load-writes (c .before .before .before .before .before .before .before .before .before .before .before .before .before .before .before .before .before .before .before .before .pre) (c .before .before .before .before .before .before .before .before .before .before .before .before .before .before .before .load-first .ensures) (c .before .before .before .before .before .before .before .before .before .before .before .core-word2 .ensures) (c .before .before .before .before .before .before .before .before .before .before .dispatch-count .ensures)
     (c .before .before .before .before .before .before .before .before .before .single-mark .ensures) (c .before .before .before .before .before .before .before .set-core-word .ensures) (c .before .before .before .set-core-word2 .ensures) (c .moved .ensures)
 

@@ -26,7 +26,7 @@ same-length : tie.Need-same-length
 same-length c = search needs
 
 returns : tie.Need-returns
-returns c = 
+returns c =
     store-does (c .before .before .before .before .before .before .before .before .before .before .before .before .before .pre) (c .before .before .before .before .before .before .core-word3 .ensures) (c .before .before .before .before .before .before .before .before .core-word2 .ensures) (inl (omega arith)) (c .moved .ensures)
     (c .before .before .before .store-whole .ensures)
 
@@ -40,12 +40,12 @@ same-length-2 : tie.Need-same-length-2
 same-length-2 c = search needs
 
 returns-2 : tie.Need-returns-2
-returns-2 c = 
+returns-2 c =
     store-does (c .before .before .before .before .before .before .before .before .before .before .before .before .before .before .pre) (c .before .before .before .before .before .before .before .core-word3 .ensures) (c .before .before .before .before .before .before .before .before .before .core-word2 .ensures) (inr (omega arith)) (c .moved2 .ensures)
     (c .before .before .before .store-whole2 .ensures)
 
 split-requires : tie.Need-split-requires
-split-requires c κs = 
+split-requires c κs =
     can-split-first (c .before .before .before .before .before .before .before .before .before .before .pre) (c .before .before .before .core-word3 .ensures) (c .before .before .before .before .before .core-word2 .ensures) (λ e. omega arith) (λ e. omega arith)
     (c .before .before .before .before .before .before .before .core-word .ensures)
 
@@ -56,7 +56,7 @@ same-length-3 : tie.Need-same-length-3
 same-length-3 c = search needs
 
 returns-3 : tie.Need-returns-3
-returns-3 c = 
+returns-3 c =
     split-does (c .before .before .before .before .before .before .before .before .before .before .before .before .before .before .pre) (c .before .before .before .before .before .before .before .core-word3 .ensures) (c .before .before .before .before .before .before .before .before .before .core-word2 .ensures) (λ e. omega arith) (λ e. omega arith)
     (c .moved3 .ensures) (c .before .before .before .split .ensures)
 

@@ -28,7 +28,7 @@ same-length : tie.Need-same-length
 same-length c = search needs
 
 returns : tie.Need-returns
-returns c = 
+returns c =
     take-moved (c .before .before .before .before .before .before .before .before .before .before .before .before .before .pre) (c .before .before .before .before .before .before .before .before .before .before .core-word .ensures) (c .before .before .before .before .before .before .before .before .core-word2 .ensures) (c .before .before .before .before .before .before .run-first .ensures)
     (c .before .before .process-word .ensures) (omega arith) (c .moved .ensures)
 
@@ -42,7 +42,7 @@ same-length-2 : tie.Need-same-length-2
 same-length-2 c = search needs
 
 returns-2 : tie.Need-returns-2
-returns-2 c = 
+returns-2 c =
     take-reports (c .before .before .before .before .before .before .before .before .before .before .before .before .before .before .before .before .before .before .pre) (c .before .before .before .before .before .before .before .before .before .before .before .before .before .before .before .core-word .ensures) (c .before .before .before .before .before .before .before .before .before .before .before .before .before .core-word2 .ensures) (c .before .before .before .before .before .before .before .before .before .before .before .run-first .ensures)
     (c .before .before .before .before .before .before .before .process-word .ensures) (omega arith) (c .before .before .before .before .process-word2 .ensures) (c .before .before .reports .ensures .1) (c .before .before .reports .ensures .0)
 
