@@ -4,7 +4,7 @@ CFLAGS := -std=c11 -O2 -Wall -Wextra -Werror -Iinclude -Ihost
 LIBRARY := target/staticlib/libfontarisca.a
 HOSTS := target/host/ring target/host/collectors
 
-.PHONY: help run test hosts header clean
+.PHONY: help run test hosts header bench clean
 
 help: ## list the targets
 	@grep -E '^[a-z]+:.*## ' $(MAKEFILE_LIST) | sed -E 's/^([a-z]+):.*## /  \1: /'
@@ -27,6 +27,10 @@ $(LIBRARY): $(shell find crates -name '*.rt' -o -name '*.antt') crates.txt
 target/host/%: host/%.c host/card.c host/card.h include/fontarisca.h $(LIBRARY)
 	@mkdir -p target/host
 	$(CC) $(CFLAGS) $< host/card.c $(LIBRARY) -o $@
+
+bench: $(LIBRARY) ## time calls of the library and of the model on the ring, in one run
+	CARGO_TARGET_DIR=target/rust FONTARISCA_LIB=target/staticlib cargo build --release --offline --quiet --manifest-path host/rust/Cargo.toml
+	target/rust/release/bench
 
 clean: ## remove what was made
 	rm -rf target

@@ -47,13 +47,13 @@ fn store_queue(t: &mut [u32], cores: usize, processes: usize, k: usize) -> Reply
     ensures { λ r. ⌜ Does (step k) (now (t .entry)) r (now (t .exit)) ⌝ }
 {
     let p = table::core_word(t, k, 3);
-    let size = table::core_word(t, k, 5);
+    let members = table::core_word(t, k, 5);
     let mark = table::core_word(t, k, 7);
     if mark == 1 {
         queues::store_whole(t, cores, k, p);
         return answers::moved();
     }
-    if size == 1 {
+    if members == 1 {
         queues::store_whole(t, cores, k, p);
         return answers::moved();
     }
