@@ -15,8 +15,8 @@ use Rattle.rules.specs.Choice.{guard}
 use Rattle.rules.specs.Packing.{ready-number, padded, of-choice, progress-words, pack, view, word-number, process-at, channel-at}
 use Rattle.rules.specs.Soundness.{own-end, own-guards}
 use Rattle.packing.proofs.Focus.{writes, below}
-use Rattle.packing.proofs.Blocks.{second-part}
-use Rattle.packing.proofs.Reflect.{three, all-at}
+use Rattle.rules.proofs.Packing.Blocks.{second-part}
+use Rattle.rules.proofs.Packing.Reflect.{three, all-at}
 use Rattle.packing.proofs.ReadLaws.{alternation-words, padded-listed, getD-tabulate}
 use Rattle.packing.proofs.WriteLaws.{nth-set-same}
 use Rattle.parts.specs.Does.{At}

@@ -11,7 +11,7 @@ use Rattle.rules.specs.Lists.{if_then_else_, total, tabulate, times, first}
 use Rattle.rules.specs.State.{Core, queues-of}
 use Rattle.rules.specs.Packing.{heads, K-of, N-of, core-at, core-word, chain, work-from, view-core}
 use Rattle.rules.specs.Soundness.{runs-it}
-use Rattle.packing.proofs.Sums.{head-stands}
+use Rattle.rules.proofs.Sums.{head-stands}
 use Rattle.fitting.proofs.Exact.{
   Exact,
   exact-if,

@@ -31,14 +31,14 @@ use Rattle.rules.specs.Packing.{
   view,
 }
 use Rattle.rules.specs.Soundness.{in-queues}
-use Rattle.packing.proofs.Regions.{Holds}
-use Rattle.packing.proofs.Blocks.{dims, words-of}
-use Rattle.packing.proofs.Tabulate.{tabulate-at}
-use Rattle.packing.proofs.Reflect.{Valid, valid-means}
-use Rattle.packing.proofs.Sums.{positive-term}
-use Rattle.packing.proofs.Chains.{next-follows, batch-follows}
-use Rattle.packing.proofs.Reading.{state-words, link-words}
-use Rattle.packing.proofs.ViewCore.{queue-words}
+use Rattle.rules.proofs.Packing.Regions.{Holds}
+use Rattle.rules.proofs.Packing.Blocks.{dims, words-of}
+use Rattle.rules.proofs.Tabulate.{tabulate-at}
+use Rattle.rules.proofs.Packing.Reflect.{Valid, valid-means}
+use Rattle.rules.proofs.Sums.{positive-term}
+use Rattle.rules.proofs.Packing.Chains.{next-follows, batch-follows}
+use Rattle.rules.proofs.Packing.Reading.{state-words, link-words}
+use Rattle.rules.proofs.Packing.ViewCore.{queue-words}
 use Rattle.fitting.proofs.Walks.{next-of, batch-of, batch-behind}
 use Rattle.fitting.proofs.CoreWalks.{chain-first, heads-of, heads-are}
 use Rattle.fitting.proofs.Views.{cores-of-view, processes-of-view, channels-of-view, core-of-view, process-of-view, channel-of-view}

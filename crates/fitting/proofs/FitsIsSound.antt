@@ -8,10 +8,10 @@ use lib.ListN.{getD}
 use Rattle.rules.specs.Packing.{pack, view}
 use Rattle.rules.specs.Lists.{same-words}
 use Rattle.rules.specs.Soundness.{valid, sound}
-use Rattle.packing.proofs.Reflect.{both, same-words-means}
-use Rattle.packing.proofs.Regions.{held-once}
-use Rattle.packing.proofs.Blocks.{dims, words-of, pack-holds}
-use Rattle.packing.proofs.Means.{sound-means}
+use Rattle.rules.proofs.Packing.Reflect.{both, same-words-means}
+use Rattle.rules.proofs.Packing.Regions.{held-once}
+use Rattle.rules.proofs.Packing.Blocks.{dims, words-of, pack-holds}
+use Rattle.rules.proofs.Packing.Means.{sound-means}
 use Rattle.fitting.proofs.Fitting.{table-exact}
 use Rattle.fitting.proofs.FitsValid.{fits-valid}
 use Rattle.fitting.proofs.FitsHolds.{fits-holds}

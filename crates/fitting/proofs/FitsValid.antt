@@ -27,7 +27,7 @@ use Rattle.rules.specs.Soundness.{
   valid-channel,
   valid,
 }
-use Rattle.packing.proofs.Sums.{term-le-total, total-map}
+use Rattle.rules.proofs.Sums.{term-le-total, total-map}
 use Rattle.fitting.proofs.Tests.{within-holds, all-four, all-five, from-holds, all-holds, times-holds}
 use Rattle.fitting.proofs.Walks.{Linked, next-of, batch-of, Batch}
 use Rattle.fitting.proofs.CoreWalks.{CoreFits, chain-first, heads-of, heads-are, heads-stand}

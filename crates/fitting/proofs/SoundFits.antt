@@ -47,13 +47,13 @@ use Rattle.rules.specs.Soundness.{
   valid-channel,
   valid,
 }
-use Rattle.packing.proofs.Blocks.{length-work-words, length-progress-words, second-part, pack-holds}
-use Rattle.packing.proofs.Tabulate.{tabulate-back}
-use Rattle.packing.proofs.Reflect.{both, four, within-means, all-at, Valid, valid-means}
-use Rattle.packing.proofs.Sums.{positive-term}
-use Rattle.packing.proofs.Chains.{queue-of, queue-among, next-follows, heads-among, batch-follows, heads-in-core, queued-once, queued-range}
-use Rattle.packing.proofs.Reading.{state-words, link-words, state-word, progress-word, link-word}
-use Rattle.packing.proofs.ViewCore.{queue-words, work-word, queue-word}
+use Rattle.rules.proofs.Packing.Blocks.{length-work-words, length-progress-words, second-part, pack-holds}
+use Rattle.rules.proofs.Tabulate.{tabulate-back}
+use Rattle.rules.proofs.Packing.Reflect.{both, four, within-means, all-at, Valid, valid-means}
+use Rattle.rules.proofs.Sums.{positive-term}
+use Rattle.rules.proofs.Packing.Chains.{queue-of, queue-among, next-follows, heads-among, batch-follows, heads-in-core, queued-once, queued-range}
+use Rattle.rules.proofs.Packing.Reading.{state-words, link-words, state-word, progress-word, link-word}
+use Rattle.rules.proofs.Packing.ViewCore.{queue-words, work-word, queue-word}
 use Rattle.fitting.proofs.Exact.{Apart}
 use Rattle.fitting.proofs.Walks.{Linked, next-of, batch-of, batch-behind, Batch}
 use Rattle.fitting.proofs.CoreWalks.{standing, load, CoreFits, chain-first, heads-of, heads-are}

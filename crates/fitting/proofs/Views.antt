@@ -12,8 +12,8 @@ use Rattle.rules.specs.State.{Way, sending, receiving, Channel, State, wiring, 
 use Rattle.rules.specs.Items.{no-core, no-process, no-channel, core-of, process-of, channel-of}
 use Rattle.rules.specs.Packing.{K-of, N-of, M-of, channel-word, view-core, view-process, view-channel, view}
 use Rattle.rules.specs.Soundness.{own-end}
-use Rattle.packing.proofs.Tabulate.{length-tabulate, tabulate-at}
-use Rattle.packing.proofs.Reflect.{within-means}
+use Rattle.rules.proofs.Tabulate.{length-tabulate, tabulate-at}
+use Rattle.rules.proofs.Packing.Reflect.{within-means}
 use Rattle.fitting.proofs.Tests.{and-as}
 use Rattle.fitting.specs.Twin.{end-fits}
 

@@ -13,7 +13,7 @@ use Rattle.rules.specs.Lists.{if_then_else_, all}
 use Rattle.rules.specs.SetUp.{room}
 use Rattle.rules.specs.Packing.{core-at, process-at, channel-at}
 use Rattle.packing.proofs.Tests.{same-test, apart, here-or-there, both-left, both-right}
-use Rattle.packing.proofs.Regions.{Dims, Words, Holds, Same, getD-set, holds-set, written}
+use Rattle.rules.proofs.Packing.Regions.{Dims, Words, Holds, Same, getD-set, holds-set, written}
 
 -- Several writes
 

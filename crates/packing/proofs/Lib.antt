@@ -1,14 +1,3 @@
-pub mod Regions
-pub mod Blocks
-pub mod Tabulate
-pub mod Reflect
-pub mod Sums
-pub mod Chains
-pub mod Reading
-pub mod ViewCore
-pub mod ViewProcess
-pub mod ViewChannel
-pub mod Means
 pub mod Tests
 pub mod ReadLaws
 pub mod States

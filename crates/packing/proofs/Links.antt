@@ -29,8 +29,8 @@ use Rattle.rules.specs.Packing.{
 }
 use Rattle.rules.specs.Soundness.{in-queues}
 use Rattle.packing.specs.Queues.{link-end, with-queues}
-use Rattle.packing.proofs.Regions.{Dims, Words, Holds, holds-set, written}
-use Rattle.packing.proofs.Blocks.{dims, words-of, pack-holds, length-progress-words, first-part, second-part}
+use Rattle.rules.proofs.Packing.Regions.{Dims, Words, Holds, holds-set, written}
+use Rattle.rules.proofs.Packing.Blocks.{dims, words-of, pack-holds, length-progress-words, first-part, second-part}
 use Rattle.packing.proofs.ReadLaws.{own-words, link-words, process-split, listed, core-list, core-listed}
 use Rattle.packing.proofs.Tests.{by-test, same-test, apart, here-or-there, both-left, both-right, both}
 use Rattle.packing.proofs.States.{dims-core, packed, same-header}

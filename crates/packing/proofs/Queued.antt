@@ -43,7 +43,7 @@ use Rattle.rules.specs.Soundness.{
 use Rattle.packing.specs.Queues.{with-queues, Queued}
 use Rattle.packing.proofs.Tests.{both-left, both-right, both, all-at, all-append, all-one}
 use Rattle.packing.proofs.ReadLaws.{length-tabulate, getD-tabulate}
-use Rattle.packing.proofs.Regions.{Dims}
+use Rattle.rules.proofs.Packing.Regions.{Dims}
 use Rattle.packing.proofs.States.{dims-put}
 use Rattle.packing.proofs.QueueLists.{total-set, total-append, times-append}
 use Rattle.packing.proofs.Links.{times-in}

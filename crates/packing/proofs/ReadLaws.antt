@@ -28,7 +28,7 @@ use Rattle.rules.specs.Packing.{
   process-at,
   channel-at,
 }
-use Rattle.packing.proofs.Blocks.{pack-holds, length-padded, length-work-words, length-progress-words, first-part, second-part}
+use Rattle.rules.proofs.Packing.Blocks.{pack-holds, length-padded, length-work-words, length-progress-words, first-part, second-part}
 
 -- A list written out
 

@@ -7,8 +7,8 @@ use Rattle.rules.specs.Lists.{set-nth}
 use Rattle.rules.specs.State.{Process, Core, Channel, State}
 use Rattle.rules.specs.Items.{Kind, core, place, data-word, alternation, progress, channel-word, transfers, Val, put}
 use Rattle.rules.specs.Packing.{header-words, pack}
-use Rattle.packing.proofs.Regions.{Dims, Words, Holds, Same, held-once}
-use Rattle.packing.proofs.Blocks.{dims, words-of, pack-holds}
+use Rattle.rules.proofs.Packing.Regions.{Dims, Words, Holds, Same, held-once}
+use Rattle.rules.proofs.Packing.Blocks.{dims, words-of, pack-holds}
 
 -- the state with another process of number p, and with another channel of number c
 abbrev pub with-process : ℕ → Process → State → State

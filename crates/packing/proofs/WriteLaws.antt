@@ -41,8 +41,8 @@ use Rattle.rules.specs.Packing.{
   process-at,
   channel-at,
 }
-use Rattle.packing.proofs.Regions.{Same}
-use Rattle.packing.proofs.Blocks.{
+use Rattle.rules.proofs.Packing.Regions.{Same}
+use Rattle.rules.proofs.Packing.Blocks.{
   dims,
   words-of,
   pack-holds,

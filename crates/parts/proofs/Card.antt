@@ -13,11 +13,11 @@ use Rattle.rules.specs.SetUp.{room}
 use Rattle.rules.specs.Packing.{pack, view, K-of, N-of, M-of, core-at, process-at, channel-at, word-number}
 use Rattle.rules.specs.Lists.{same-words, within}
 use Rattle.rules.specs.Soundness.{is-process, own-end, valid-stage, valid-progress, valid-work, valid, sound}
-use Rattle.packing.proofs.Regions.{Holds}
-use Rattle.packing.proofs.Blocks.{pack-holds}
-use Rattle.packing.proofs.Reflect.{Valid, valid-means, both, within-means, same-words-means}
-use Rattle.packing.proofs.Reading.{header-of-pack}
-use Rattle.packing.proofs.Means.{sound-means}
+use Rattle.rules.proofs.Packing.Regions.{Holds}
+use Rattle.rules.proofs.Packing.Blocks.{pack-holds}
+use Rattle.rules.proofs.Packing.Reflect.{Valid, valid-means, both, within-means, same-words-means}
+use Rattle.rules.proofs.Packing.Reading.{header-of-pack}
+use Rattle.rules.proofs.Packing.Means.{sound-means}
 use Rattle.table.specs.Has.{HasCore, HasProcess, HasChannel}
 use Rattle.table.proofs.Has.{has-core, has-process, has-channel}
 use Rattle.parts.specs.Does.{Card, At}

@@ -16,8 +16,8 @@ use Rattle.rules.specs.Rule.{Ran, run, refused, _>>=_}
 use Rattle.rules.specs.Requests.{Request, request, requester, in-hand, asks}
 use Rattle.rules.specs.Packing.{view, view-core, view-process, progress-from, progress-words, word-at, core-word, process-word, process-at, K-of, N-of}
 use Rattle.rules.specs.Soundness.{valid-work}
-use Rattle.packing.proofs.Tabulate.{tabulate-at}
-use Rattle.packing.proofs.Reflect.{within-means}
+use Rattle.rules.proofs.Tabulate.{tabulate-at}
+use Rattle.rules.proofs.Packing.Reflect.{within-means}
 use Rattle.packing.proofs.ReadLaws.{read-progress}
 use Rattle.parts.specs.Does.{Card}
 use Rattle.parts.proofs.Card.{packed, facts, cores-are, card-core, card-process, N-is}

@@ -1,4 +1,7 @@
+pub mod Tests
+pub mod Tabulate
+pub mod Sums
+pub mod Packing
+pub mod Validity
+pub mod Laws
 pub mod BenchSheet
-pub mod Frame
-pub mod Within
-pub mod Commute

@@ -27,8 +27,8 @@ use Rattle.rules.specs.Numbers.{
 use Rattle.rules.specs.SetUp.{room, sizes, set-up-refusal, set-up-state}
 use Rattle.rules.specs.Packing.{pack}
 use Rattle.rules.specs.Calls.{built, set-up-call}
-use Rattle.validity.proofs.Tests.{tests}
-use Rattle.validity.proofs.SetUp.{past}
+use Rattle.rules.proofs.Tests.{tests}
+use Rattle.rules.proofs.Validity.SetUp.{past}
 use Rattle.set_up.specs.Filled.{flaw-number, Ready}
 
 -- no refusal has the number 0

@@ -14,8 +14,8 @@ use Rattle.rules.specs.Items.{core-of, channel-of}
 use Rattle.rules.specs.SetUp.{room, ends-of, new-core, new-process, new-channel, set-up-state}
 use Rattle.rules.specs.Packing.{header-words, core-words, process-words, channel-words, pack, core-at, process-at, channel-at}
 use Rattle.packing.proofs.Tests.{here-or-there}
-use Rattle.packing.proofs.Regions.{Dims, Words, Holds, Same, held-once}
-use Rattle.packing.proofs.Blocks.{dims, words-of, pack-holds, first-part, second-part}
+use Rattle.rules.proofs.Packing.Regions.{Dims, Words, Holds, Same, held-once}
+use Rattle.rules.proofs.Packing.Blocks.{dims, words-of, pack-holds, first-part, second-part}
 use Rattle.packing.proofs.Focus.{
   Region,
   cores,
@@ -33,8 +33,8 @@ use Rattle.packing.proofs.Focus.{
   writes,
   below,
 }
-use Rattle.packing.proofs.Tabulate.{length-tabulate}
-use Rattle.validity.proofs.SetUp.{ends-length}
+use Rattle.rules.proofs.Tabulate.{length-tabulate}
+use Rattle.rules.proofs.Validity.SetUp.{ends-length}
 use Rattle.set_up.specs.Filled.{up-to, last-of, in-turn, header-filled, core-filled, process-filled, channel-filled, Ready}
 use Rattle.set_up.proofs.NewState.{new-core-words, new-process-words, new-channel-words}
 

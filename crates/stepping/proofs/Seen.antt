@@ -69,7 +69,7 @@ use Rattle.rules.specs.Packing.{
   progress-words,
 }
 use Rattle.rules.specs.Soundness.{sound, on-cores, in-queues, runs-it, fits, stands}
-use Rattle.packing.proofs.Tabulate.{tabulate-at}
+use Rattle.rules.proofs.Tabulate.{tabulate-at}
 use Rattle.parts.specs.Does.{Card, At}
 use Rattle.parts.proofs.Card.{facts, cores-are, processes-are, K-is, N-is}
 

@@ -17,7 +17,7 @@ use Rattle.rules.specs.Choice.{trigger-step}
 use Rattle.rules.specs.Scheduler.{work-step, step}
 use Rattle.rules.specs.Packing.{view, word-at, core-at, process-at, place-number, work-words, work-from}
 use Rattle.packing.specs.Queues.{push-table}
-use Rattle.packing.proofs.Reflect.{within-means}
+use Rattle.rules.proofs.Packing.Reflect.{within-means}
 use Rattle.packing.proofs.ReadLaws.{read-core}
 use Rattle.answers.specs.Four.{four}
 use Rattle.answers.specs.declared.Reply.{Reply}

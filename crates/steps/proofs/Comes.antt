@@ -10,7 +10,7 @@ use Rattle.rules.specs.Items.{channel-of, put, data-word, progress, channel-wor
 use Rattle.rules.specs.Packing.{pack, view, work-words, process-at, channel-at, word-number}
 use Rattle.rules.specs.Rule.{Rule, run}
 use Rattle.rules.specs.Steps.{sleeps, after-look, outcome, parked, look-step, park-step, copy-step, clear-step}
-use Rattle.rules.proofs.Frame.{put-other}
+use Rattle.rules.proofs.Laws.Frame.{put-other}
 use Rattle.packing.proofs.States.{length-set-nth}
 use Rattle.answers.specs.Four.{four}
 use Rattle.answers.specs.declared.Reply.{Reply}

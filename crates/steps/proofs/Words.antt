@@ -7,7 +7,7 @@ use lib.ListN.{length, getD}
 use Rattle.rules.specs.State.{Channel, Stage}
 use Rattle.rules.specs.Items.{channel-of}
 use Rattle.rules.specs.Packing.{view, word-from, channel-at, channel-word, view-channel}
-use Rattle.packing.proofs.ViewChannel.{view-channel-back}
+use Rattle.rules.proofs.Packing.ViewChannel.{view-channel-back}
 use Rattle.words.specs.Meaning.{meaning}
 use Rattle.words.specs.declared.Holder.{Holder}
 use Rattle.parts.specs.Does.{Card, At}

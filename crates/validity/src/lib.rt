@@ -1,1 +1,0 @@
-// The crate holds proofs only: see proofs/. No function stands here.
