@@ -16,7 +16,7 @@ use Rattle.rules.specs.Steps.{next}
 use Rattle.rules.specs.Choice.{guard, counting, flags, waits, wait-step, disable-next, keep-first, disabled, disable-step, lower-step}
 use Rattle.rules.specs.Packing.{ready-number, progress-words, pack, view, word-from, process-at, channel-at}
 use Rattle.rules.specs.Soundness.{own-guards, in-list, ready-in-list}
-use Rattle.rules.proofs.Packing.Reflect.{three}
+use Rattle.rules.proofs.Tests.{three}
 use Rattle.words.specs.Meaning.{meaning}
 use Rattle.words.specs.declared.Holder.{Holder}
 use Rattle.words.specs.declared.Holder.the-variants.{Nobody, Plain, Choosing}

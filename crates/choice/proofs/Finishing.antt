@@ -17,7 +17,7 @@ use Rattle.rules.specs.Steps.{has-task}
 use Rattle.rules.specs.Choice.{guard, counting, flags, lowered, finished, finish-step, trigger-step}
 use Rattle.rules.specs.Packing.{work-words, ready-number, progress-words, view, process-at}
 use Rattle.rules.specs.Soundness.{own-end, own-guards, ready-in-list, valid-work}
-use Rattle.rules.proofs.Packing.Reflect.{both, three, within-means}
+use Rattle.rules.proofs.Tests.{both, three, within-means}
 use Rattle.table.specs.Has.{HasProcess}
 use Rattle.answers.specs.Four.{four}
 use Rattle.answers.specs.declared.Reply.{Reply}

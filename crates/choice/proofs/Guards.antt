@@ -16,8 +16,9 @@ use Rattle.rules.specs.Packing.{ready-number, padded, of-choice, progress-words
 use Rattle.rules.specs.Soundness.{own-end, own-guards}
 use Rattle.packing.proofs.Focus.{writes, below}
 use Rattle.rules.proofs.Packing.Blocks.{second-part}
-use Rattle.rules.proofs.Packing.Reflect.{three, all-at}
-use Rattle.packing.proofs.ReadLaws.{alternation-words, padded-listed, getD-tabulate}
+use Rattle.rules.proofs.Tests.{three, all-at}
+use Rattle.rules.proofs.Packing.ReadLaws.{alternation-words, padded-listed}
+use Rattle.rules.proofs.Tabulate.{tabulate-at}
 use Rattle.packing.proofs.WriteLaws.{nth-set-same}
 use Rattle.parts.specs.Does.{At}
 use Rattle.parts.proofs.Card.{own-end-range, runs-range}
@@ -71,7 +72,7 @@ module _ {t : List ℕ} {cores processes : ℕ} {s : State} {p n : ℕ} {gs : Li
       ap (word-of t cores p) e ∙ reads (6 + j) (omega arith)
       ∙ second-part (n ∷ 0 ∷ 0 ∷ length gs ∷ i ∷ ready-number r ∷ []) (padded 8 gs) 6 j refl
       ∙ ap (λ (l : List ℕ). getD l j 0) (padded-listed 8 gs)
-      ∙ getD-tabulate (λ f. getD gs f 0) 0 8 j (omega arith) ∙ ap (λ (f : ℕ). getD gs f 0) (zero-add j)
+      ∙ tabulate-at (λ f. getD gs f 0) 0 8 0 j (omega arith) ∙ ap (λ (f : ℕ). getD gs f 0) (zero-add j)
 
   -- its count
   pub count-is : word-of t cores p 5 ≡ process-of s p .alternation .count

@@ -12,7 +12,7 @@ use Rattle.rules.specs.Items.{core-of, process-of, channel-of, no-process, put,
 use Rattle.rules.specs.Steps.{with-work}
 use Rattle.rules.specs.Packing.{word-number, work-words, progress-words, pack, view, process-at, channel-at}
 use Rattle.packing.proofs.Focus.{writes, below}
-use Rattle.packing.proofs.ReadLaws.{alternation-words, after-work, listed, process-list, read-process, read-channel, read-progress}
+use Rattle.rules.proofs.Packing.ReadLaws.{alternation-words, after-work, listed, process-list, read-process, read-channel, read-progress}
 use Rattle.packing.proofs.States.{with-process, length-set-nth}
 use Rattle.packing.proofs.WriteLaws.{nth-set-same, put-place, put-alternation, put-progress, on-listed}
 use Rattle.packing.proofs.WriteLaws.{put-channel-word, put-core}
@@ -107,7 +107,7 @@ module _ {t : List ℕ} {cores processes : ℕ} {s : State} (h : Packs t cores p
   module _ (p : ℕ) (among : Among s p) where
     pub progress-reads : (f : ℕ) → f < 14
         → getD t (process-at cores p (6 + f)) 0 ≡ getD (progress-words (process-of s p .progress)) f 0
-    progress-reads f b = rw (h .is, h .all-cores) (read-progress s p f (among .0) (among .1) b)
+    progress-reads f b = rw (h .is, h .all-cores) (read-progress s p (among .0) (among .1) f b)
 
     -- the word f before its progress, as a list's entry that computes
     pub state-reads : (f : ℕ) → f < 24 → getD t (process-at cores p f) 0 ≡ getD (process-list s p) f 0

@@ -15,7 +15,7 @@ use Rattle.rules.specs.Rule.{Rule, run, _>>=_}
 use Rattle.rules.specs.Choice.{guard, lowered, raised, keep-first, first-ready}
 use Rattle.rules.specs.Packing.{word-number, ready-number}
 use Rattle.rules.specs.Soundness.{ready-in-list, valid-word}
-use Rattle.rules.proofs.Packing.Reflect.{within-means, not-zero}
+use Rattle.rules.proofs.Tests.{within-means, not-zero}
 use Rattle.answers.specs.Four.{four}
 use Rattle.answers.specs.declared.Reply.{Reply}
 use Rattle.parts.specs.Does.{Comes}

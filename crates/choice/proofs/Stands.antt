@@ -12,7 +12,7 @@ use Rattle.rules.specs.Items.{channel-of}
 use Rattle.rules.specs.Choice.{guard}
 use Rattle.rules.specs.Packing.{of-choice, progress-words, view, word-number, word-from}
 use Rattle.rules.specs.Soundness.{own-end, own-guards, in-list, ready-in-list, valid-enabling, valid-disabling, valid-word}
-use Rattle.rules.proofs.Packing.Reflect.{both, three, within-means}
+use Rattle.rules.proofs.Tests.{both, three, within-means}
 use Rattle.rules.proofs.Packing.ViewChannel.{word-back}
 use Rattle.parts.specs.Does.{Card, At}
 use Rattle.parts.proofs.Card.{facts, card-core, card-process, card-channel, runs-process}

@@ -9,7 +9,7 @@ use Rattle.rules.specs.Lists.{if_then_else_, within, bit}
 use Rattle.rules.specs.State.{Wiring}
 use Rattle.rules.specs.Packing.{work-words, core-at, core-word, work-from}
 use Rattle.rules.specs.Soundness.{is-process, valid-work}
-use Rattle.rules.proofs.Packing.Reflect.{both, three, four}
+use Rattle.rules.proofs.Tests.{both, three, four}
 use Rattle.fitting.proofs.Tests.{equal-holds, within-holds, all-three, all-four, zeros-mean, zeros-hold, bit-means, bit-holds}
 use Rattle.fitting.specs.Twin.{word, zeros, task-fits, core-fits}
 

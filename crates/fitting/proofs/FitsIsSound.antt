@@ -8,7 +8,7 @@ use lib.ListN.{getD}
 use Rattle.rules.specs.Packing.{pack, view}
 use Rattle.rules.specs.Lists.{same-words}
 use Rattle.rules.specs.Soundness.{valid, sound}
-use Rattle.rules.proofs.Packing.Reflect.{both, same-words-means}
+use Rattle.rules.proofs.Tests.{both, same-words-means}
 use Rattle.rules.proofs.Packing.Regions.{held-once}
 use Rattle.rules.proofs.Packing.Blocks.{dims, words-of, pack-holds}
 use Rattle.rules.proofs.Packing.Means.{sound-means}

@@ -29,7 +29,7 @@ use Rattle.rules.specs.Packing.{
 }
 use Rattle.rules.specs.Soundness.{is-process, own-end, own-guards, in-list, ready-in-list, valid-progress, fits}
 use Rattle.rules.proofs.Tabulate.{length-tabulate}
-use Rattle.rules.proofs.Packing.Reflect.{both, three, five, together, within-means}
+use Rattle.rules.proofs.Tests.{both, three, five, together, within-means}
 use Rattle.fitting.proofs.Tests.{equal-holds, all-three, all-five, six, all-six}
 use Rattle.fitting.proofs.Views.{take-tabulate, tabulate-as, processes-of-view, own-end-is}
 use Rattle.fitting.proofs.Shapes.{Shape, shape-words, shape-valid, shape-of}

@@ -13,7 +13,7 @@ use Rattle.rules.specs.State.{wiring}
 use Rattle.rules.specs.SetUp.{room, sizes}
 use Rattle.rules.specs.Packing.{K-of, N-of, M-of, process-word, view-channel, view}
 use Rattle.rules.specs.Soundness.{valid-channel}
-use Rattle.rules.proofs.Packing.Reflect.{both, four, three, together, within-means, all-from}
+use Rattle.rules.proofs.Tests.{both, four, three, together, within-means, all-from}
 use Rattle.fitting.proofs.Tests.{equal-holds, all-four, zeros-mean, zeros-hold, from-holds}
 use Rattle.fitting.proofs.Exact.{Exact, Met, Apart}
 use Rattle.fitting.proofs.CoreWalks.{standing, load, CoreFits, cores-exact}

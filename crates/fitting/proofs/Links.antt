@@ -14,7 +14,8 @@ use Rattle.rules.specs.Items.{core-of, no-core}
 use Rattle.rules.specs.Packing.{heads, next-link, if-head, head-link, batch-link, chain}
 use Rattle.rules.specs.Soundness.{runs-it, on-cores, in-queues}
 use Rattle.rules.proofs.Sums.{total-le, term-le-total, positive-term, total-add, total-zero, total-only, total-map, Among, among-length}
-use Rattle.rules.proofs.Packing.Chains.{chain-back, follows-none}
+use Rattle.rules.proofs.QueueLists.{follows-none}
+use Rattle.rules.proofs.Packing.Chains.{chain-back}
 use Rattle.fitting.proofs.Tests.{bit-positive}
 use Rattle.fitting.proofs.Walks.{Linked, last-from}
 use Rattle.fitting.proofs.CoreWalks.{standing, load}

@@ -47,7 +47,7 @@ use Rattle.rules.specs.State.{
 }
 use Rattle.rules.specs.Packing.{place-number, request-words, progress-words, progress-from}
 use Rattle.rules.specs.Soundness.{is-process, own-end, own-guards, in-list, ready-in-list, valid-progress, fits}
-use Rattle.rules.proofs.Packing.Reflect.{within-means}
+use Rattle.rules.proofs.Tests.{within-means}
 use Rattle.fitting.proofs.Tests.{and-true}
 use Rattle.fitting.specs.Twin.{is-sender, is-receiver, has-partner, has-guards, has-index, has-ready, place-fits}
 

@@ -49,10 +49,12 @@ use Rattle.rules.specs.Soundness.{
 }
 use Rattle.rules.proofs.Packing.Blocks.{length-work-words, length-progress-words, second-part, pack-holds}
 use Rattle.rules.proofs.Tabulate.{tabulate-back}
-use Rattle.rules.proofs.Packing.Reflect.{both, four, within-means, all-at, Valid, valid-means}
+use Rattle.rules.proofs.Tests.{both, four, within-means, all-at}
+use Rattle.rules.proofs.Packing.Reflect.{Valid, valid-means}
 use Rattle.rules.proofs.Sums.{positive-term}
 use Rattle.rules.proofs.Packing.Chains.{queue-of, queue-among, next-follows, heads-among, batch-follows, heads-in-core, queued-once, queued-range}
-use Rattle.rules.proofs.Packing.Reading.{state-words, link-words, state-word, progress-word, link-word}
+use Rattle.rules.proofs.Packing.ReadLaws.{state-words, link-words}
+use Rattle.rules.proofs.Packing.Reading.{state-word, progress-word, link-word}
 use Rattle.rules.proofs.Packing.ViewCore.{queue-words, work-word, queue-word}
 use Rattle.fitting.proofs.Exact.{Apart}
 use Rattle.fitting.proofs.Walks.{Linked, next-of, batch-of, batch-behind, Batch}
@@ -271,7 +273,7 @@ module _ (t : List ℕ) (good : T (valid (view t))) (packed : pack (view t) ≡ 
         omega (
           arith,
           standing-is s q,
-          stands-total (on-cores s q) (in-queues s q) (process-of s q .place) (v .processes q (r .0) (r .1) .stands),
+          stands-total (on-cores s q) (in-queues s q) (process-of s q .place) (v .processes q (r .0) (r .1) .standing),
         ),
       )
 
@@ -299,8 +301,8 @@ module _ (t : List ℕ) (good : T (valid (view t))) (packed : pack (view t) ≡ 
         let x = process-of s p .progress in
         record {
           count = subst (λ (x : Process). x .alternation .count ≤ 9) process (valid-here .count);
-          progress = subst (λ (x : Process). T (valid-progress w p (x .progress))) process (valid-here .progress);
-          places = subst (λ (x : Process). T (fits (x .place) (x .progress))) process (valid-here .fits);
+          progress = subst (λ (x : Process). T (valid-progress w p (x .progress))) process (valid-here .in-hand);
+          places = subst (λ (x : Process). T (fits (x .place) (x .progress))) process (valid-here .fitting);
           state = read-is state-words 0 6 refl (λ i c. ap (process-word (pack s) p) (zero-add i) ∙ state-word s p l exists i c);
           words = read-is (λ x. progress-words (x .progress)) 6 14 (length-progress-words x) (progress-word s p l exists);
         }
@@ -325,7 +327,7 @@ module _ (t : List ℕ) (good : T (valid (view t))) (packed : pack (view t) ≡ 
         let state = process-here .state in
         let place : process-word t p 0 ≡ place-number y = cc in
         let stands-here : T (stands (on-cores s p) (in-queues s p) y) =
-        subst (λ (x : Process). T (stands (on-cores s p) (in-queues s p) (x .place))) process (v .processes p l exists .stands) in
+        subst (λ (x : Process). T (stands (on-cores s p) (in-queues s p) (x .place))) process (v .processes p l exists .standing) in
         rw (place, load-is)
         (meeting-exact t (K-of t) p (on-cores s p) (in-queues s p) (heads-in s p) y (stands-total (on-cores s p) (in-queues s p) y stands-here)
         (heads-below t some core-here p) .1 (stands-here, no-links))

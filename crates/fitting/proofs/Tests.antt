@@ -8,7 +8,7 @@ use native.Mathlib.Nat.{add-zero}
 use lib.Dec.{T, eqb, leb, eqb→eq, leb→le, le→leb, eqb-refl}
 use lib.ListN.{length, getD}
 use Rattle.rules.specs.Lists.{within, all, from, bit, times}
-use Rattle.rules.proofs.Packing.Reflect.{both, five, together}
+use Rattle.rules.proofs.Tests.{both, five, together}
 use Rattle.rules.proofs.Sums.{head-stands}
 use Rattle.fitting.specs.Twin.{word, zeros}
 

@@ -13,7 +13,7 @@ use Rattle.rules.specs.Items.{no-core, no-process, no-channel, core-of, process
 use Rattle.rules.specs.Packing.{K-of, N-of, M-of, channel-word, view-core, view-process, view-channel, view}
 use Rattle.rules.specs.Soundness.{own-end}
 use Rattle.rules.proofs.Tabulate.{length-tabulate, tabulate-at}
-use Rattle.rules.proofs.Packing.Reflect.{within-means}
+use Rattle.rules.proofs.Tests.{within-means}
 use Rattle.fitting.proofs.Tests.{and-as}
 use Rattle.fitting.specs.Twin.{end-fits}
 

@@ -10,7 +10,7 @@ use lib.ListN.{length, set}
 use borrow.Author.Tests.{eqb-true}
 use Rattle.rules.specs.Lists.{if_then_else_, within, total, bit, times}
 use Rattle.rules.specs.Packing.{K-of, N-of, process-at, core-word, process-word, chain}
-use Rattle.rules.proofs.Packing.Reflect.{both, three, together, within-means}
+use Rattle.rules.proofs.Tests.{both, three, together, within-means}
 use Rattle.rules.proofs.Sums.{head-stands}
 use Rattle.fitting.proofs.Tests.{equal-holds, within-holds, all-three}
 use Rattle.fitting.proofs.Exact.{

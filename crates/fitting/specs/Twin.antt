@@ -2,8 +2,8 @@
 -- process along each chain, then the processes, then the channels. Each part stops at the first flaw.
 use Prim.Native.Nat.{ℕ, zero, suc, _+_, _-_, _/_}
 use mathlib.Core.Bool.{Bool, true, false, _&&_, _||_}
-use mathlib.Core.List.{List, [], _∷_}
-use lib.Dec.{eqb, leb, ltb}
+use mathlib.Core.List.{List}
+use lib.Dec.{eqb, leb}
 use lib.ListN.{length, getD, set, replicate}
 use Rattle.rules.specs.Lists.{if_then_else_, within}
 use Rattle.rules.specs.SetUp.{room, sizes}

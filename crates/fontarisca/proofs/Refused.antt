@@ -13,7 +13,7 @@ use Rattle.rules.specs.Packing.{K-of}
 use Rattle.rules.specs.Soundness.{sound}
 use Rattle.fitting.specs.Twin.{word, zeros, header-fits, rest-fits, table-fits}
 use Rattle.fitting.proofs.FitsIsSound.{fits-is-sound}
-use Rattle.rules.proofs.Packing.Reflect.{four}
+use Rattle.rules.proofs.Tests.{four}
 use Rattle.fontarisca.specs.First.{first-refusal}
 
 -- a table that fits has a header

@@ -12,7 +12,7 @@ use borrow.Author.Tests.{eqb-true, eqb-false, lt-ltb, ne-eqb}
 use Rattle.rules.specs.Lists.{if_then_else_, all}
 use Rattle.rules.specs.SetUp.{room}
 use Rattle.rules.specs.Packing.{core-at, process-at, channel-at}
-use Rattle.packing.proofs.Tests.{same-test, apart, here-or-there, both-left, both-right}
+use Rattle.rules.proofs.Tests.{same-test, apart, here-or-there, both}
 use Rattle.rules.proofs.Packing.Regions.{Dims, Words, Holds, Same, getD-set, holds-set, written}
 
 -- Several writes
@@ -35,8 +35,8 @@ length-writes (w ∷ ws) at l = length-writes ws at (set l (at (w .0)) (w .1)) �
 pub below-shifted : (ws : List (ℕ × ℕ)) (m n o : ℕ) → m + n ≤ o → T (below n (λ j. j) ws) → T (below o (λ j. m + j) ws)
 below-shifted [] m n o h b = tt
 below-shifted (w ∷ ws) m n o h b =
-    let low : w .0 < n = ltb→lt _ _ (both-left (ltb (w .0) n) _ b) in
-    rw (lt-ltb (m + w .0) o (omega arith)) (below-shifted ws m n o h (both-right (ltb (w .0) n) _ b))
+    let low : w .0 < n = ltb→lt _ _ (both (ltb (w .0) n) _ b .0) in
+    rw (lt-ltb (m + w .0) o (omega arith)) (below-shifted ws m n o h (both (ltb (w .0) n) _ b .1))
 
 -- a write into the second of two lists
 set-append-right : (a l : List ℕ) (f v : ℕ) → set (a ++ l) (length a + f) v ≡ a ++ set l f v
@@ -51,10 +51,10 @@ pub writes-inside : (ws : List (ℕ × ℕ)) (a l z : List ℕ) (m n : ℕ) → 
 writes-inside [] a l z m n e e′ h = refl
 writes-inside (w ∷ ws) a l z m n e e′ h =
     ap (λ (t : List ℕ). writes ws (λ j. m + j) t) first-write
-    ∙ writes-inside ws a (set l (w .0) (w .1)) z m n e (length-set l (w .0) (w .1) ∙ e′) (both-right (ltb (w .0) n) _ h)
+    ∙ writes-inside ws a (set l (w .0) (w .1)) z m n e (length-set l (w .0) (w .1) ∙ e′) (both (ltb (w .0) n) _ h .1)
   where
     inside : w .0 < n
-    inside = ltb→lt _ _ (both-left (ltb (w .0) n) _ h)
+    inside = ltb→lt _ _ (both (ltb (w .0) n) _ h .0)
 
     first-write : set (a ++ l ++ z) (m + w .0) (w .1) ≡ a ++ set l (w .0) (w .1) ++ z
     first-write =
@@ -206,7 +206,7 @@ pub focus-writes : (r : Region) (d : Dims) (w : Words) (j : ℕ) (at : ℕ → �
     → Holds d (focus r j l w) t → Holds d (focus r j (writes ws at l) w) (writes ws (λ f. address d r j (at f)) t)
 focus-writes r d w j at [] l t h e b held = held
 focus-writes r d w j at (x ∷ ws) l t h e b held =
-    let low : at (x .0) < size-in r = ltb→lt _ _ (both-left (ltb (at (x .0)) (size-in r)) _ b) in
-    let rest : T (below (size-in r) at ws) = both-right (ltb (at (x .0)) (size-in r)) _ b in
+    let low : at (x .0) < size-in r = ltb→lt _ _ (both (ltb (at (x .0)) (size-in r)) _ b .0) in
+    let rest : T (below (size-in r) at ws) = both (ltb (at (x .0)) (size-in r)) _ b .1 in
     focus-writes r d w j at ws (set l (at (x .0)) (x .1)) _ h (length-set l (at (x .0)) (x .1) ∙ e) rest
     (focus-set d w j (at (x .0)) (x .1) l (omega arith) r t h low held)

@@ -1,8 +1,5 @@
-pub mod Tests
-pub mod ReadLaws
 pub mod States
 pub mod Focus
-pub mod QueueLists
 pub mod Links
 pub mod WriteLaws
 pub mod Standing

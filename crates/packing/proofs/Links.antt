@@ -31,11 +31,12 @@ use Rattle.rules.specs.Soundness.{in-queues}
 use Rattle.packing.specs.Queues.{link-end, with-queues}
 use Rattle.rules.proofs.Packing.Regions.{Dims, Words, Holds, holds-set, written}
 use Rattle.rules.proofs.Packing.Blocks.{dims, words-of, pack-holds, length-progress-words, first-part, second-part}
-use Rattle.packing.proofs.ReadLaws.{own-words, link-words, process-split, listed, core-list, core-listed}
-use Rattle.packing.proofs.Tests.{by-test, same-test, apart, here-or-there, both-left, both-right, both}
+use Rattle.rules.proofs.Packing.ReadLaws.{own-words, link-words, process-split, listed, core-list, core-listed}
+use Rattle.rules.proofs.Tests.{by-test, same-test, apart, here-or-there, both, together}
 use Rattle.packing.proofs.States.{dims-core, packed, same-header}
 use Rattle.packing.proofs.Focus.{writes, below, cores, focus, focus-writes, length-writes, focus-start, holds-same}
-use Rattle.packing.proofs.QueueLists.{total-set, total-alone, no-next, no-head, no-next-head}
+use Rattle.rules.proofs.Sums.{total-set, total-alone}
+use Rattle.rules.proofs.QueueLists.{no-next, no-head, no-next-head}
 
 -- Links as words 20 to 23 of processes
 
@@ -131,14 +132,14 @@ module _ (s : State) (k : ℕ) (inside : k < length (s .cores)) where
 
     -- the word f of the core is written
     pub held-core : (f v : ℕ) → T (ltb f 16) → Held s k l L t → Held s k (set l f v) L (set t (core-at k f) v)
-    held-core f v b h = held-writes (λ j. j) ((f, v) ∷ []) (both (ltb f 16) true b tt) h
+    held-core f v b h = held-writes (λ j. j) ((f, v) ∷ []) (together (ltb f 16) true b tt) h
 
     -- the link at word f of process p is written
     held-link : (f p v : ℕ) → T (leb 20 f && ltb f 24) → 1 ≤ p → p ≤ length (s .processes)
         → Held s k l L t → Held s k l (write-link f p v L) (set t (process-at (length (s .cores)) p f) v)
     held-link f p v b low high h =
-        let from : 20 ≤ f = leb→le 20 f (both-left (leb 20 f) (ltb f 24) b) in
-        let to : f < 24 = ltb→lt f 24 (both-right (leb 20 f) (ltb f 24) b) in
+        let from : 20 ≤ f = leb→le 20 f (both (leb 20 f) (ltb f 24) b .0) in
+        let to : f < 24 = ltb→lt f 24 (both (leb 20 f) (ltb f 24) b .1) in
         record { size = h .size; held = link-set (dims s) (focus cores k l (words-of s)) L p f v t low high from to (h .held) }
 
   -- there is no process 0 whose link could be written

@@ -10,9 +10,9 @@ use Rattle.rules.specs.State.{Core, State}
 use Rattle.rules.specs.Items.{core-of, put, core}
 use Rattle.rules.specs.Packing.{heads, if-head, word-at, process-at, core-at, head-link, batch-link, pack}
 use Rattle.packing.specs.Queues.{load-writes, load-table, with-queues, Queued}
-use Rattle.packing.proofs.ReadLaws.{read-core, read-process}
-use Rattle.packing.proofs.Tests.{here-or-there, both-right}
-use Rattle.packing.proofs.QueueLists.{follows-first, follows-rest, if-head-first, if-head-other, no-head, no-next-head}
+use Rattle.rules.proofs.Packing.ReadLaws.{read-core, read-process}
+use Rattle.rules.proofs.Tests.{here-or-there, both}
+use Rattle.rules.proofs.QueueLists.{follows-first, follows-rest, if-head-first, if-head-other, no-head, no-next-head}
 use Rattle.packing.proofs.Links.{
   held-first,
   held-core,
@@ -72,7 +72,7 @@ module _ (s : State) (k p : ℕ) (more : List ℕ) (rest : List (List ℕ)) (ins
       none = first-head-once s k inside queued p more rest e′
 
       among : T (all (within 1 (length (s .processes))) (heads rest))
-      among = both-right (within 1 (length (s .processes)) p) _ (rw e′ at (core-heads-among s k inside queued))
+      among = both (within 1 (length (s .processes)) p) _ (rw e′ at (core-heads-among s k inside queued)) .1
 
       -- what the head keeps of its batch
       kept : (f : List ℕ → ℕ) → head-link f s p ≡ f (p ∷ more)

@@ -1,6 +1,6 @@
 -- Which states have their queues in order: valid ones, and those that come from such a state by a change of an item or of a queue.
-use Prim.Native.Nat.{ℕ, _+_, _-_, _≤_, _<_}
-use mathlib.Core.Path.{_≡_, refl, sym, ap, _∙_, subst, subst₂}
+use Prim.Native.Nat.{ℕ, _+_, _≤_, _<_}
+use mathlib.Core.Path.{_≡_, refl, sym, ap, subst, subst₂}
 use mathlib.Core.Bool.{Bool, true, false, _&&_}
 use mathlib.Core.List.{List, [], _∷_, _++_}
 use native.Mathlib.Omega.{arith}
@@ -26,26 +26,13 @@ use Rattle.rules.specs.Items.{
   put,
 }
 use Rattle.rules.specs.SetUp.{sizes}
-use Rattle.rules.specs.Soundness.{
-  in-queues,
-  on-cores,
-  stands,
-  word32,
-  valid-progress,
-  fits,
-  valid-process,
-  valid-work,
-  not-empty,
-  valid-core,
-  valid-channel,
-  valid,
-}
+use Rattle.rules.specs.Soundness.{in-queues, on-cores, stands, valid-process, valid-work, not-empty, valid-core, valid-channel, valid}
 use Rattle.packing.specs.Queues.{with-queues, Queued}
-use Rattle.packing.proofs.Tests.{both-left, both-right, both, all-at, all-append, all-one}
-use Rattle.packing.proofs.ReadLaws.{length-tabulate, getD-tabulate}
+use Rattle.rules.proofs.Tests.{both, together, all-at, all-append, all-one}
+use Rattle.rules.proofs.Packing.Reflect.{valid-means}
 use Rattle.rules.proofs.Packing.Regions.{Dims}
 use Rattle.packing.proofs.States.{dims-put}
-use Rattle.packing.proofs.QueueLists.{total-set, total-append, times-append}
+use Rattle.rules.proofs.Sums.{total-set, total-append, times-append}
 use Rattle.packing.proofs.Links.{times-in}
 use Rattle.packing.proofs.Standing.{active-among, batches-among}
 
@@ -53,22 +40,22 @@ use Rattle.packing.proofs.Standing.{active-among, batches-among}
 
 -- a process stands in queues no more than once, whatever its place
 once-where : (cores queues : ℕ) (x : Place) → T (stands cores queues x) → queues ≤ 1
-once-where cores queues running h = omega (arith, eqb→eq queues 0 (both-right (eqb cores 1) (eqb queues 0) h))
-once-where cores queues queued h = omega (arith, eqb→eq queues 1 (both-right (eqb cores 0) (eqb queues 1) h))
-once-where cores queues asleep h = omega (arith, eqb→eq queues 0 (both-right (eqb cores 0) (eqb queues 0) h))
-once-where cores queues ended h = omega (arith, eqb→eq queues 0 (both-right (eqb cores 0) (eqb queues 0) h))
+once-where cores queues running h = omega (arith, eqb→eq queues 0 (both (eqb cores 1) (eqb queues 0) h .1))
+once-where cores queues queued h = omega (arith, eqb→eq queues 1 (both (eqb cores 0) (eqb queues 1) h .1))
+once-where cores queues asleep h = omega (arith, eqb→eq queues 0 (both (eqb cores 0) (eqb queues 0) h .1))
+once-where cores queues ended h = omega (arith, eqb→eq queues 0 (both (eqb cores 0) (eqb queues 0) h .1))
 
 -- A valid state has its queues in order.
 pub valid-queued : (s : State) → T (valid s) → Queued s
 unfolding valid valid-core valid-process
 valid-queued s h =
     record {
-      members = λ k inside. both-right (all-but-members (core-of s k)) _ (at-core k inside);
+      members = λ k inside. both (all-but-members (core-of s k)) _ (at-core k inside) .1;
       batches = λ k inside.
           let c = core-of s k in
-          both-right (valid-work (wiring s) (c .work) && leb (c .dispatch) 32) _
-          (both-left (all-but-members c) (all (all (within 1 (length (s .processes)))) (queues-of c)) (at-core k inside));
-      once = λ p low high. once-where (on-cores s p) (in-queues s p) (process-of s p .place) (at-process p low high);
+          both (valid-work (wiring s) (c .work) && leb (c .dispatch) 32) _
+          (both (all-but-members c) (all (all (within 1 (length (s .processes)))) (queues-of c)) (at-core k inside) .0) .1;
+      once = λ p low high. once-where (on-cores s p) (in-queues s p) (process-of s p .place) (valid-means s h .processes p low high .standing);
     }
   where
     size-tests : Bool
@@ -81,27 +68,15 @@ valid-queued s h =
     process-tests = all (valid-process s) (from 1 (length (s .processes)))
 
     no-channels : T (size-tests && core-tests && process-tests)
-    no-channels = both-left (size-tests && core-tests && process-tests) (all (valid-channel (wiring s)) (s .channels)) h
+    no-channels = both (size-tests && core-tests && process-tests) (all (valid-channel (wiring s)) (s .channels)) h .0
 
     all-but-members : Core → Bool
     all-but-members c = valid-work (wiring s) (c .work) && leb (c .dispatch) 32 && all not-empty (c .run-queue)
 
     at-core : (k : ℕ) → k < length (s .cores) → T (valid-core (wiring s) (core-of s k))
     at-core k inside =
-        all-at (valid-core (wiring s)) (s .cores) k no-core inside
-        (both-right size-tests core-tests (both-left (size-tests && core-tests) process-tests no-channels))
-
-    at-process : (p : ℕ) → 1 ≤ p → p ≤ length (s .processes) → T (stands (on-cores s p) (in-queues s p) (process-of s p .place))
-    at-process p low high =
-        let n : ℕ = length (s .processes) in
-        let r = process-of s p in
-        let here : getD (from 1 n) (p - 1) 0 ≡ p = getD-tabulate (λ i. i) 1 n (p - 1) (omega arith) ∙ omega arith in
-        let test : T (valid-process s (getD (from 1 n) (p - 1) 0)) =
-        all-at (valid-process s) (from 1 n) (p - 1) 0 (omega (arith, length-tabulate (λ i. i) 1 n))
-        (both-right (size-tests && core-tests) process-tests no-channels) in
-        both-right
-        (word32 (r .data-word) && leb (r .alternation .count) 9 && valid-progress (wiring s) p (r .progress) && fits (r .place) (r .progress))
-        _ (rw here at test)
+        all-at (valid-core (wiring s)) (s .cores) no-core
+        (both size-tests core-tests (both (size-tests && core-tests) process-tests no-channels .0) .1) k inside
 
 -- Other items
 
@@ -179,7 +154,7 @@ module _ (s : State) (k : ℕ) (inside : k < length (s .cores)) (h : Queued s) w
       → Queued (put core k (with-queues (core-of s k .active ++ (q ∷ [])) (core-of s k .run-queue) (core-of s k)) s)
   queued-push q low high none =
       queued-core _
-      (both (all (within 1 n) (l ++ (q ∷ []))) _
+      (together (all (within 1 n) (l ++ (q ∷ []))) _
       (all-append (within 1 n) l (q ∷ []) (active-among s k inside h) (all-one (within 1 n) q in-range)) (batches-among s k inside h))
       (h .batches k inside) (λ p low′ high′. omega (arith, times-append p l (q ∷ []), once p low′ high′ (eqb q p) refl))
     where
@@ -190,7 +165,7 @@ module _ (s : State) (k : ℕ) (inside : k < length (s .cores)) (h : Queued s) w
       l = core-of s k .active
 
       in-range : T (within 1 n q)
-      in-range = both (leb 1 q) (leb q n) (le→leb 1 q low) (le→leb q n high)
+      in-range = together (leb 1 q) (leb q n) (le→leb 1 q low) (le→leb q n high)
 
       once : (p : ℕ) → 1 ≤ p → p ≤ n → (x : Bool) → eqb q p ≡ x → in-queues s p + bit x ≤ 1
       once p low′ high′ true e = omega (arith, ap (in-queues s) (eqb-true q p e), none)
@@ -201,7 +176,7 @@ module _ (s : State) (k : ℕ) (inside : k < length (s .cores)) (h : Queued s) w
       → Queued (put core k (with-queues rest (core-of s k .run-queue) (core-of s k)) s)
   queued-take p rest e =
       queued-fewer _
-      (both (all (within 1 n) rest) _ (both-right (within 1 n p) _ (rw e at (active-among s k inside h))) (batches-among s k inside h))
+      (together (all (within 1 n) rest) _ (both (within 1 n p) _ (rw e at (active-among s k inside h)) .1) (batches-among s k inside h))
       (h .batches k inside) (λ i. omega (arith, ap (times i) e))
     where
       n : ℕ
@@ -230,8 +205,8 @@ module _ (s : State) (k : ℕ) (inside : k < length (s .cores)) (h : Queued s) w
       → Queued (put core k (with-queues [] (core-of s k .run-queue ++ ((p ∷ []) ∷ ((q ∷ rest) ∷ []))) (core-of s k)) s)
   queued-split p q rest e =
       queued-stored ((p ∷ []) ∷ ((q ∷ rest) ∷ []))
-      (both (all (within 1 n) (p ∷ [])) _ (all-one (within 1 n) p (both-left (within 1 n p) (all (within 1 n) (q ∷ rest)) among))
-      (all-one (all (within 1 n)) (q ∷ rest) (both-right (within 1 n p) (all (within 1 n) (q ∷ rest)) among)))
+      (together (all (within 1 n) (p ∷ [])) _ (all-one (within 1 n) p (both (within 1 n p) (all (within 1 n) (q ∷ rest)) among .0))
+      (all-one (all (within 1 n)) (q ∷ rest) (both (within 1 n p) (all (within 1 n) (q ∷ rest)) among .1)))
       tt (λ i. omega (arith, ap (times i) e))
     where
       n : ℕ
@@ -244,5 +219,5 @@ module _ (s : State) (k : ℕ) (inside : k < length (s .cores)) (h : Queued s) w
   pub queued-load : (batch : List ℕ) (rest : List (List ℕ)) → core-of s k .run-queue ≡ batch ∷ rest
       → Queued (put core k (with-queues batch rest (core-of s k)) s)
   queued-load batch rest e =
-      queued-fewer _ (rw e at (batches-among s k inside h)) (both-right (not-empty batch) _ (rw e at (h .batches k inside)))
+      queued-fewer _ (rw e at (batches-among s k inside h)) (both (not-empty batch) _ (rw e at (h .batches k inside)) .1)
       (λ i. omega (arith, ap (total (times i)) e))

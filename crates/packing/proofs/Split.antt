@@ -11,26 +11,10 @@ use Rattle.rules.specs.State.{Core, State}
 use Rattle.rules.specs.Items.{core-of, put, core}
 use Rattle.rules.specs.Packing.{heads, if-head, word-at, process-at, core-at, next-link, head-link, batch-link, pack}
 use Rattle.packing.specs.Queues.{split-writes, split-table, with-queues, Queued}
-use Rattle.packing.proofs.ReadLaws.{read-core}
-use Rattle.packing.proofs.Tests.{here-or-there}
-use Rattle.packing.proofs.QueueLists.{
-  total-append,
-  times-append,
-  times-again,
-  times-last,
-  times-heads,
-  follows-none,
-  follows-single,
-  follows-rest,
-  follows-more,
-  follows-last,
-  last-append,
-  heads-append,
-  if-head-first,
-  if-head-other,
-  no-next,
-  no-head,
-}
+use Rattle.rules.proofs.Packing.ReadLaws.{read-core}
+use Rattle.rules.proofs.Tests.{here-or-there}
+use Rattle.rules.proofs.Sums.{total-append, times-append, head-stands}
+use Rattle.rules.proofs.QueueLists.{times-last, times-heads, follows-none, follows-single, follows-rest, follows-more, follows-last, last-append, heads-append, if-head-first, if-head-other, no-next, no-head}
 use Rattle.packing.proofs.Links.{
   held-first,
   held-own,
@@ -174,7 +158,7 @@ split-law s k p q rest inside queued e =
     behind-first =
         let z : last (heads r ++ (p ∷ [])) ≡ p = last-append (heads r) p [] in
         let once : times p (heads r ++ (p ∷ [])) ≤ 1 =
-        omega (arith, times-append p (heads r) (p ∷ []), times-heads p r (stands .low), first-none, times-again p []) in
+        omega (arith, times-append p (heads r) (p ∷ []), times-heads p r (stands .low), first-none, head-stands p []) in
         next-head-alone s k c′ inside p stands ∙ ap (follows p) new-heads
         ∙ (rw z at (follows-last q (heads r ++ (p ∷ [])) (rw z (stands .low)) (rw z once)))
 

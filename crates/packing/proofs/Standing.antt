@@ -13,8 +13,9 @@ use Rattle.rules.specs.Items.{core-of, no-core}
 use Rattle.rules.specs.Packing.{heads}
 use Rattle.rules.specs.Soundness.{not-empty, in-queues}
 use Rattle.packing.specs.Queues.{Queued}
-use Rattle.packing.proofs.Tests.{both-left, both-right, both}
-use Rattle.packing.proofs.QueueLists.{total-part, times-again, times-last, times-heads}
+use Rattle.rules.proofs.Tests.{both, together}
+use Rattle.rules.proofs.Sums.{term-le-total, head-stands}
+use Rattle.rules.proofs.QueueLists.{times-last, times-heads}
 use Rattle.packing.proofs.Links.{times-in, Stands}
 
 -- one of 1 to n
@@ -23,15 +24,15 @@ Among n p = (1 ≤ p) × (p ≤ n)
 
 -- as a test says it
 within-among : (n p : ℕ) → T (within 1 n p) → Among n p
-within-among n p h = (leb→le 1 p (both-left (leb 1 p) (leb p n) h), leb→le p n (both-right (leb 1 p) (leb p n) h))
+within-among n p h = (leb→le 1 p (both (leb 1 p) (leb p n) h .0), leb→le p n (both (leb 1 p) (leb p n) h .1))
 
 -- the first and the last of a list of such numbers are such
 pub first-among : (n x : ℕ) (l : List ℕ) → T (all (within 1 n) (x ∷ l)) → Among n x
-first-among n x l h = within-among n x (both-left (within 1 n x) (all (within 1 n) l) h)
+first-among n x l h = within-among n x (both (within 1 n x) (all (within 1 n) l) h .0)
 
 last-among : (n x : ℕ) (l : List ℕ) → T (all (within 1 n) (x ∷ l)) → Among n (last (x ∷ l))
 last-among n x [] h = first-among n x [] h
-last-among n x (y ∷ l) h = last-among n y l (both-right (within 1 n x) (all (within 1 n) (y ∷ l)) h)
+last-among n x (y ∷ l) h = last-among n y l (both (within 1 n x) (all (within 1 n) (y ∷ l)) h .1)
 
 pub last-bound : (n : ℕ) (l : List ℕ) → T (all (within 1 n) l) → last l ≤ n
 last-bound n [] h = omega arith
@@ -43,9 +44,9 @@ heads-among : (n : ℕ) (batches : List (List ℕ)) → T (all (all (within 1 n)
 heads-among n [] h g = tt
 heads-among n ([] ∷ batches) h g = absurd g
 heads-among n ((x ∷ l) ∷ batches) h g =
-    both (within 1 n x) (all (within 1 n) (heads batches))
-    (both-left (within 1 n x) (all (within 1 n) l) (both-left (all (within 1 n) (x ∷ l)) (all (all (within 1 n)) batches) h))
-    (heads-among n batches (both-right (all (within 1 n) (x ∷ l)) (all (all (within 1 n)) batches) h) g)
+    together (within 1 n x) (all (within 1 n) (heads batches))
+    (both (within 1 n x) (all (within 1 n) l) (both (all (within 1 n) (x ∷ l)) (all (all (within 1 n)) batches) h .0) .0)
+    (heads-among n batches (both (all (within 1 n) (x ∷ l)) (all (all (within 1 n)) batches) h .1) g)
 
 -- what is first when another is put at the end: that one where there was none, which the last shows
 pub first-more : (n p : ℕ) (l m : List ℕ) → T (all (within 1 n) l) → (if eqb (last l) 0 then p else first l) ≡ first (l ++ (p ∷ m))
@@ -60,10 +61,10 @@ last-rest n x (y ∷ l) h = rw (ne-eqb y 0 (λ e. omega (arith, first-among n y 
 module _ (s : State) (k : ℕ) (inside : k < length (s .cores)) (queued : Queued s) where
   -- the members of the active queue and of the batches, and the heads, are processes
   pub active-among : T (all (within 1 (length (s .processes))) (core-of s k .active))
-  active-among = both-left (all (within 1 (length (s .processes))) (core-of s k .active)) _ (queued .members k inside)
+  active-among = both (all (within 1 (length (s .processes))) (core-of s k .active)) _ (queued .members k inside) .0
 
   pub batches-among : T (all (all (within 1 (length (s .processes)))) (core-of s k .run-queue))
-  batches-among = both-right (all (within 1 (length (s .processes))) (core-of s k .active)) _ (queued .members k inside)
+  batches-among = both (all (within 1 (length (s .processes))) (core-of s k .active)) _ (queued .members k inside) .1
 
   pub core-heads-among : T (all (within 1 (length (s .processes))) (heads (core-of s k .run-queue)))
   core-heads-among = heads-among (length (s .processes)) (core-of s k .run-queue) batches-among (queued .batches k inside)
@@ -78,13 +79,13 @@ module _ (s : State) (k : ℕ) (inside : k < length (s .cores)) (queued : Queued
         high = among .1;
         once = once;
         here = here;
-        at-most = le-trans (total-part (times-in p) (s .cores) k no-core inside) once;
+        at-most = le-trans (term-le-total (times-in p) (s .cores) no-core k inside) once;
       }
 
   -- so does the first of the active queue
   pub first-stands : (p : ℕ) (rest : List ℕ) → core-of s k .active ≡ p ∷ rest → Stands s k p
   first-stands p rest e =
-      let here : 1 ≤ times p (core-of s k .active) = rw e (omega (arith, times-again p rest)) in
+      let here : 1 ≤ times p (core-of s k .active) = rw e (omega (arith, head-stands p rest)) in
       stands-once p (first-among _ p rest (rw e at active-among)) (omega arith)
 
   -- it stands neither further on in that queue nor in a batch
@@ -92,16 +93,16 @@ module _ (s : State) (k : ℕ) (inside : k < length (s .cores)) (queued : Queued
       → (times p rest ≡ 0) × (total (times p) (core-of s k .run-queue) ≡ 0)
   first-once p rest e =
       let stands : Stands s k p = first-stands p rest e in
-      let count : times p (core-of s k .active) ≡ 1 + times p rest = ap (times p) e ∙ times-again p rest in
+      let count : times p (core-of s k .active) ≡ 1 + times p rest = ap (times p) e ∙ head-stands p rest in
       omega arith
 
   -- the second of the active queue, which stands in no batch
   second-here : (p q : ℕ) (rest : List ℕ) → core-of s k .active ≡ p ∷ (q ∷ rest) → 1 ≤ times q (core-of s k .active)
-  second-here p q rest e = rw e (omega (arith, times-again q rest))
+  second-here p q rest e = rw e (omega (arith, head-stands q rest))
 
   pub second-stands : (p q : ℕ) (rest : List ℕ) → core-of s k .active ≡ p ∷ (q ∷ rest) → Stands s k q
   second-stands p q rest e =
-      stands-once q (first-among _ q rest (both-right (within 1 (length (s .processes)) p) _ (rw e at active-among)))
+      stands-once q (first-among _ q rest (both (within 1 (length (s .processes)) p) _ (rw e at active-among) .1))
       (omega (arith, second-here p q rest e))
 
   pub second-once : (p q : ℕ) (rest : List ℕ) → core-of s k .active ≡ p ∷ (q ∷ rest) → total (times q) (core-of s k .run-queue) ≡ 0
@@ -131,7 +132,7 @@ module _ (s : State) (k : ℕ) (inside : k < length (s .cores)) (queued : Queued
   -- the first head stands in its batch and in no other
   first-head-here : (p : ℕ) (more : List ℕ) (rest : List (List ℕ)) → core-of s k .run-queue ≡ (p ∷ more) ∷ rest
       → 1 + total (times p) rest ≤ total (times p) (core-of s k .run-queue)
-  first-head-here p more rest e = rw e (omega (arith, times-again p more))
+  first-head-here p more rest e = rw e (omega (arith, head-stands p more))
 
   pub first-head-stands : (p : ℕ) (more : List ℕ) (rest : List (List ℕ)) → core-of s k .run-queue ≡ (p ∷ more) ∷ rest → Stands s k p
   first-head-stands p more rest e =

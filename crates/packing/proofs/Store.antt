@@ -10,18 +10,10 @@ use Rattle.rules.specs.State.{Core, State}
 use Rattle.rules.specs.Items.{core-of, put, core}
 use Rattle.rules.specs.Packing.{heads, if-head, head-link, batch-link, pack}
 use Rattle.packing.specs.Queues.{store-heads, store-writes, store-table, with-queues, Queued}
-use Rattle.packing.proofs.ReadLaws.{read-core, core-list}
-use Rattle.packing.proofs.Tests.{here-or-there}
-use Rattle.packing.proofs.QueueLists.{
-  total-append,
-  follows-more,
-  follows-last,
-  last-append,
-  heads-append,
-  if-head-first,
-  if-head-other,
-  no-head,
-}
+use Rattle.rules.proofs.Packing.ReadLaws.{read-core, core-list}
+use Rattle.rules.proofs.Tests.{here-or-there}
+use Rattle.rules.proofs.Sums.{total-append}
+use Rattle.rules.proofs.QueueLists.{follows-more, follows-last, last-append, heads-append, if-head-first, if-head-other, no-head}
 use Rattle.packing.proofs.Links.{
   write-link,
   Held,

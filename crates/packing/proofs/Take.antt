@@ -10,9 +10,9 @@ use Rattle.rules.specs.State.{Core, State}
 use Rattle.rules.specs.Items.{core-of, put, core}
 use Rattle.rules.specs.Packing.{word-at, process-at, core-at, next-link, pack}
 use Rattle.packing.specs.Queues.{take-writes, take-table, with-queues, Queued}
-use Rattle.packing.proofs.ReadLaws.{read-core, read-process}
-use Rattle.packing.proofs.Tests.{here-or-there, both-right}
-use Rattle.packing.proofs.QueueLists.{follows-none, follows-first, follows-rest, no-next}
+use Rattle.rules.proofs.Packing.ReadLaws.{read-core, read-process}
+use Rattle.rules.proofs.Tests.{here-or-there, both}
+use Rattle.rules.proofs.QueueLists.{follows-none, follows-first, follows-rest, no-next}
 use Rattle.packing.proofs.Links.{
   held-first,
   held-core,
@@ -79,7 +79,7 @@ module _ (s : State) (k p : ℕ) (rest : List ℕ) (inside : k < length (s .core
       stands = first-stands s k inside queued p rest e
 
       among : T (all (within 1 (length (s .processes))) rest)
-      among = both-right (within 1 (length (s .processes)) p) _ (rw e at (active-among s k inside queued))
+      among = both (within 1 (length (s .processes)) p) _ (rw e at (active-among s k inside queued)) .1
 
       -- nothing follows p any more
       unlinked : next-in p c′ ≡ 0

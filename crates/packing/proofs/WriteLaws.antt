@@ -52,7 +52,7 @@ use Rattle.rules.proofs.Packing.Blocks.{
   length-progress-words,
 }
 use Rattle.packing.proofs.Links.{links-of, held-first, held-writes, held-last, next-kept, head-kept, next-head-kept}
-use Rattle.packing.proofs.ReadLaws.{
+use Rattle.rules.proofs.Packing.ReadLaws.{
   listed,
   listed-same,
   core-list,
@@ -62,7 +62,7 @@ use Rattle.packing.proofs.ReadLaws.{
   channel-list,
   process-split,
 }
-use Rattle.packing.proofs.Tests.{here-or-there}
+use Rattle.rules.proofs.Tests.{here-or-there}
 use Rattle.packing.proofs.States.{with-process, with-channel, dims-process, dims-channel, packed, same-header}
 use Rattle.packing.proofs.Focus.{
   Region,

@@ -15,7 +15,8 @@ use Rattle.rules.specs.Lists.{same-words, within}
 use Rattle.rules.specs.Soundness.{is-process, own-end, valid-stage, valid-progress, valid-work, valid, sound}
 use Rattle.rules.proofs.Packing.Regions.{Holds}
 use Rattle.rules.proofs.Packing.Blocks.{pack-holds}
-use Rattle.rules.proofs.Packing.Reflect.{Valid, valid-means, both, within-means, same-words-means}
+use Rattle.rules.proofs.Tests.{both, within-means, same-words-means}
+use Rattle.rules.proofs.Packing.Reflect.{Valid, valid-means}
 use Rattle.rules.proofs.Packing.Reading.{header-of-pack}
 use Rattle.rules.proofs.Packing.Means.{sound-means}
 use Rattle.table.specs.Has.{HasCore, HasProcess, HasChannel}
@@ -89,7 +90,7 @@ module _ (t : List ℕ) (cores processes k p : ℕ) (x : Stage) (at : At t cores
   -- its stage is valid
   pub stage-valid : T (valid-stage (wiring (view t)) p x)
   stage-valid =
-      let progress = facts t (at .card .is-sound) .processes p (runs-range .0) (runs-range .1) .progress in
+      let progress = facts t (at .card .is-sound) .processes p (runs-range .0) (runs-range .1) .in-hand in
       subst (λ (y : Progress). T (valid-progress (wiring (view t)) p y)) (at .stage) progress
 
   -- its words are in the table

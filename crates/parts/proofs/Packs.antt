@@ -13,7 +13,7 @@ use Rattle.rules.specs.Packing.{pack, view, core-at, process-at, channel-at, pl
 use Rattle.rules.specs.Steps.{with-work}
 use Rattle.packing.proofs.Focus.{writes, below}
 use Rattle.packing.proofs.States.{length-set-nth}
-use Rattle.packing.proofs.ReadLaws.{read-process, read-channel, listed, after-work}
+use Rattle.rules.proofs.Packing.ReadLaws.{read-process, read-channel, listed, after-work}
 use Rattle.packing.proofs.WriteLaws.{on-listed, put-place, put-data-word, put-progress, put-channel-word, put-transfers, put-core}
 use Rattle.parts.specs.Does.{At, Card}
 use Rattle.parts.specs.Shared.{task-table, cleared}

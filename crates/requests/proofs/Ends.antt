@@ -13,8 +13,8 @@ use Rattle.rules.specs.Items.{no-channel, channel-of}
 use Rattle.rules.specs.Rule.{Rule, Ran, run, _>>_}
 use Rattle.rules.specs.Requests.{unless, proper-end}
 use Rattle.rules.specs.Packing.{pack, view, word-at, channel-at, M-of}
-use Rattle.rules.proofs.Packing.Reflect.{within-means}
-use Rattle.packing.proofs.ReadLaws.{read-channel}
+use Rattle.rules.proofs.Tests.{within-means}
+use Rattle.rules.proofs.Packing.ReadLaws.{read-channel}
 use Rattle.answers.specs.declared.Reply.{Reply}
 use Rattle.parts.specs.Does.{Card, Comes}
 use Rattle.parts.proofs.Card.{packed, cores-are, processes-are, M-is}

@@ -17,8 +17,8 @@ use Rattle.rules.specs.Requests.{Request, request, requester, in-hand, asks}
 use Rattle.rules.specs.Packing.{view, view-core, view-process, progress-from, progress-words, word-at, core-word, process-word, process-at, K-of, N-of}
 use Rattle.rules.specs.Soundness.{valid-work}
 use Rattle.rules.proofs.Tabulate.{tabulate-at}
-use Rattle.rules.proofs.Packing.Reflect.{within-means}
-use Rattle.packing.proofs.ReadLaws.{read-progress}
+use Rattle.rules.proofs.Tests.{within-means}
+use Rattle.rules.proofs.Packing.ReadLaws.{read-progress}
 use Rattle.parts.specs.Does.{Card}
 use Rattle.parts.proofs.Card.{packed, facts, cores-are, card-core, card-process, N-is}
 use Rattle.requests.specs.Asked.{HasRunning, asker}
@@ -107,7 +107,7 @@ module _ (t : List ℕ) (cores processes k : ℕ) (card : Card t cores processes
   progress-some p low high e idle =
       e (ap (λ (m : ℕ). word-at t (process-at m p 6)) (cores-are t cores processes k card)
       ∙ ap (λ (u : List ℕ). word-at u (process-at (length (view t .cores)) p 6)) (packed t (card .is-sound))
-      ∙ read-progress (view t) p 0 low high (lit< tt)
+      ∙ read-progress (view t) p low high 0 (lit< tt)
       ∙ ap (λ (y : Progress). getD (progress-words y) 0 0) idle)
 
   -- the words that the code reads are there

@@ -1,6 +1,8 @@
 pub mod Tests
+pub mod Good
 pub mod Tabulate
 pub mod Sums
+pub mod QueueLists
 pub mod Packing
 pub mod Validity
 pub mod Laws

@@ -1,14 +1,27 @@
--- Sums over a list: how one sum bounds or determines another, and a list of distinct numbers of 1 to N, which is at most N long.
+-- Sums over a list: of one replaced, of two joined, how one sum bounds or determines another; and a list of distinct numbers of
+-- 1 to N, which is at most N long.
 use Prim.Native.Nat.{ℕ, zero, suc, _+_, _-_, _≤_, _<_}
 use mathlib.Core.Path.{_≡_, refl, sym, ap}
 use mathlib.Core.Bool.{Bool, true, false}
-use mathlib.Core.List.{List, [], _∷_, map}
+use mathlib.Core.List.{List, [], _∷_, _++_, map}
 use native.Mathlib.Omega.{arith}
 use lib.Dec.{eqb, leb}
-use lib.ListN.{length, getD}
-use borrow.Author.Tests.{leb-true, leb-false, eq-eqb}
+use lib.ListN.{length, getD, set}
+use borrow.Author.Tests.{leb-true, leb-false, eq-eqb, ne-eqb}
 use Rattle.rules.specs.Lists.{total, from, bit, times}
 use Rattle.rules.proofs.Tabulate.{length-tabulate, tabulate-at}
+
+module _ {A : Type 0} (f : A → ℕ) where
+  -- one of the list replaced: the new sum and the old one differ as the two do
+  pub total-set : (l : List A) (k : ℕ) (v d : A) → k < length l → total f (set l k v) + f (getD l k d) ≡ total f l + f v
+  total-set [] k v d h = omega arith
+  total-set (x ∷ xs) zero v d h = omega arith
+  total-set (x ∷ xs) (suc k) v d h = omega (arith, total-set xs k v d (omega arith))
+
+  -- the sum over two lists joined
+  pub total-append : (l m : List A) → total f (l ++ m) ≡ total f l + total f m
+  total-append [] m = omega arith
+  total-append (x ∷ xs) m = omega (arith, total-append xs m)
 
 module _ {A : Type 0} where
   -- a sum of numbers that are nowhere greater is no greater
@@ -61,10 +74,33 @@ module _ {A : Type 0} where
         total-only f g follow xs (omega arith) d i (omega arith) h,
       )
 
+  -- and only that is left where the one at that place is replaced
+  pub total-alone : (f g : A → ℕ) (l : List A) (k : ℕ) (a d : A) → ((x : A) → f x ≡ 0 → g x ≡ 0) → k < length l
+      → total f l ≤ 1 → 1 ≤ f (getD l k d) → total g (set l k a) ≡ g a
+  total-alone f g l k a d follow h once here = omega (arith, total-set g l k a d h, total-only f g follow l once d k h here)
+
   -- a sum over a list that was made from another
   pub total-map : {B : Type 0} (f : B → ℕ) (g : A → B) (l : List A) → total f (map g l) ≡ total (λ a. f (g a)) l
   total-map f g [] = refl
   total-map f g (x ∷ xs) = ap (λ (n : ℕ). f (g x) + n) (total-map f g xs)
+
+-- How often a number stands in a list
+
+-- a number counts once where it is looked for
+pub counts-once : (p : ℕ) → bit (eqb p p) ≡ 1
+counts-once p = rw (eq-eqb p p refl)
+
+-- and another doesn't
+pub counts-not : (q p : ℕ) → (p ≡ q → ⊥) → bit (eqb q p) ≡ 0
+counts-not q p h = rw (ne-eqb q p (λ e. h (sym e)))
+
+-- once more where it is the first
+pub head-stands : (x : ℕ) (xs : List ℕ) → times x (x ∷ xs) ≡ 1 + times x xs
+head-stands x xs = ap (λ (n : ℕ). n + times x xs) (counts-once x)
+
+-- as often as in both parts
+pub times-append : (p : ℕ) (l m : List ℕ) → times p (l ++ m) ≡ times p l + times p m
+times-append p l m = total-append (λ x. bit (eqb x p)) l m
 
 -- A list of distinct numbers of 1 to n
 
@@ -72,10 +108,6 @@ module _ {A : Type 0} where
 pub record Among (n : ℕ) (l : List ℕ) : Type 0 where
   pub range : (p : ℕ) → 1 ≤ times p l → (1 ≤ p) × (p ≤ n)
   pub once : (p : ℕ) → times p l ≤ 1
-
--- a number stands in a list where it is the first
-pub head-stands : (x : ℕ) (xs : List ℕ) → times x (x ∷ xs) ≡ 1 + times x xs
-head-stands x xs = ap (λ (t : Bool). bit t + times x xs) (eq-eqb x x refl)
 
 -- the numbers of a list of 1 to n, counted number by number, are at least the list's length
 counted : (n : ℕ) (l : List ℕ) → ((p : ℕ) → 1 ≤ times p l → (1 ≤ p) × (p ≤ n)) → length l ≤ total (λ p. times p l) (from 1 n)

@@ -1,5 +1,4 @@
 -- Every rule leaves a valid state valid, and set-up makes one.
-pub mod Sums
 pub mod Reflect
 pub mod Changes
 pub mod Channels

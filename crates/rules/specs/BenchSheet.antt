@@ -3,42 +3,11 @@ use Prim.Native.Nat.{ℕ, _+_, _*_}
 use mathlib.Core.Path.{_≡_}
 use mathlib.Core.Bool.{Bool, true, false}
 use mathlib.Core.List.{List, [], _∷_, _++_, map}
-use mathlib.Core.Option.{none}
-use lib.ListN.{length, replicate}
+use lib.ListN.{replicate}
 use Rattle.rules.specs.Lists.{tabulate, from, member, if_then_else_}
 use Rattle.rules.specs.Numbers.{Answer, BUILT, TAKEN, MOVED, SLEPT, GO, SENT, GOT, CHOSE, ROOM, yes-with, no-because, number-of, words-of}
-use Rattle.rules.specs.State.{
-  Place,
-  running,
-  queued,
-  asleep,
-  ended,
-  sending,
-  receiving,
-  copy,
-  got,
-  chose,
-  go,
-  Progress,
-  nothing,
-  doing,
-  due,
-  Alternation,
-  Process,
-  no-task,
-  trigger,
-  wake-up,
-  Work,
-  runs,
-  free,
-  Core,
-  Ends,
-  plain,
-  choosing,
-  Channel,
-  State,
-}
-use Rattle.rules.specs.Items.{core-of, process-of, channel-of, no-alternation, put, alternation, transfers}
+use Rattle.rules.specs.State.{queued, ended, go, nothing, due, Alternation, Process, no-task, trigger, wake-up, free, State}
+use Rattle.rules.specs.Items.{core-of, process-of, no-alternation, put, alternation, transfers}
 use Rattle.rules.specs.Requests.{send, receive, choose}
 use Rattle.rules.specs.Packing.{pack, view, channel-word}
 use Rattle.rules.specs.Calls.{Result, Ask, the-step, a-request, call, Built, set-up-call}

@@ -1,13 +1,12 @@
 -- Each call of the library as a function of the table and its arguments: the number returned, the answer words and the table
 -- afterwards, for every table and every argument. These are what the exports' contracts cite.
 use Prim.Native.Nat.{ℕ}
-use mathlib.Core.Bool.{Bool, true, false}
 use mathlib.Core.List.{List}
 use mathlib.Core.Option.{Option, none, some}
 use lib.Dec.{eqb, ltb}
 use lib.ListN.{length}
 use Rattle.rules.specs.Lists.{if_then_else_}
-use Rattle.rules.specs.Numbers.{Answer, BUILT, Refusal, ANSWER, DAMAGED, CORE, Said, yes-with, no-because, number-of, words-of}
+use Rattle.rules.specs.Numbers.{Answer, BUILT, Refusal, ANSWER, DAMAGED, CORE, yes-with, no-because, number-of, words-of}
 use Rattle.rules.specs.State.{State, Wiring, wiring}
 use Rattle.rules.specs.Rule.{Rule, Ran, accepted, refused, run}
 use Rattle.rules.specs.Requests.{Request, send, receive, choose, yield, end, request}

@@ -1,10 +1,10 @@
 -- The items of document 01, "Touched items": what a step can read and write, each with the type of its value.
 use Prim.Native.Nat.{ℕ}
-use mathlib.Core.Bool.{Bool, false}
-use mathlib.Core.List.{List, []}
+use mathlib.Core.Bool.{false}
+use mathlib.Core.List.{[]}
 use lib.ListN.{getD, set}
 use Rattle.rules.specs.Lists.{nth, set-nth}
-use Rattle.rules.specs.State.{Place, ended, Progress, nothing, Alternation, Process, free, no-task, Core, Ends, ChannelWord, nobody, Channel, State}
+use Rattle.rules.specs.State.{Place, ended, Progress, nothing, Alternation, Process, free, no-task, Core, ChannelWord, nobody, Channel, State}
 
 -- Seven kinds of item; an item is a kind and the number of its core, process or channel.
 pub data Kind : Type 0 where

@@ -1,60 +1,11 @@
 -- The packing (docs/PACKING.md): each state as a table of T = 8 + 16K + 24N + 4M words, and a state read out of any table.
 use Prim.Native.Nat.{ℕ, zero, suc, _+_, _*_, _-_, _/_, _%_}
-use mathlib.Core.Bool.{Bool, true, false}
 use mathlib.Core.List.{List, [], _∷_, _++_, map, flatMap}
 use mathlib.Core.Option.{Option, none, some}
 use lib.Dec.{eqb}
 use lib.ListN.{length, getD, take}
 use Rattle.rules.specs.Lists.{if_then_else_, nth, total, tabulate, from, bit, first, last, follows}
-use Rattle.rules.specs.State.{
-  Place,
-  running,
-  queued,
-  asleep,
-  ended,
-  Way,
-  sending,
-  receiving,
-  Stage,
-  look,
-  park,
-  copy,
-  clear,
-  wake,
-  enable-look,
-  raise,
-  place-name,
-  ready-from-look,
-  ready-from-place,
-  wait,
-  disable,
-  lower,
-  finish,
-  go,
-  sent,
-  got,
-  chose,
-  Progress,
-  nothing,
-  doing,
-  due,
-  Alternation,
-  Process,
-  no-task,
-  trigger,
-  wake-up,
-  Work,
-  runs,
-  free,
-  Core,
-  queues-of,
-  ChannelWord,
-  nobody,
-  plain,
-  choosing,
-  Channel,
-  State,
-}
+use Rattle.rules.specs.State.{Place, running, queued, asleep, ended, sending, receiving, look, park, copy, clear, wake, enable-look, raise, place-name, ready-from-look, ready-from-place, wait, disable, lower, finish, go, sent, got, chose, Progress, nothing, doing, due, Process, no-task, trigger, wake-up, Work, runs, free, Core, queues-of, ChannelWord, nobody, plain, choosing, Channel, State}
 use Rattle.rules.specs.Items.{core-of, process-of, channel-of}
 
 -- The numbers of the packing

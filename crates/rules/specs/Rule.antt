@@ -1,6 +1,5 @@
 -- A rule is a small program over items: it reads, writes, answers or refuses. What it touches can be read off it.
 use Prim.Native.Nat.{ℕ}
-use mathlib.Core.Path.{_≡_}
 use Rattle.rules.specs.Numbers.{Refusal}
 use Rattle.rules.specs.State.{State}
 use Rattle.rules.specs.Items.{Kind, Val, get, put}

@@ -1,13 +1,13 @@
 -- Document 01, "Set-up": the state that it builds, and when it is refused.
-use Prim.Native.Nat.{ℕ, zero, suc, _+_, _*_, _-_, _%_}
-use mathlib.Core.Bool.{Bool, true, false, _&&_}
-use mathlib.Core.List.{List, [], _∷_, _++_, map}
+use Prim.Native.Nat.{ℕ, _+_, _*_, _-_, _%_}
+use mathlib.Core.Bool.{Bool, false, _&&_}
+use mathlib.Core.List.{List, [], _∷_, map}
 use mathlib.Core.Option.{Option, none, some}
 use lib.Dec.{eqb}
 use lib.ListN.{length}
 use Rattle.rules.specs.Lists.{if_then_else_, within, tabulate, from}
 use Rattle.rules.specs.Numbers.{Refusal, SIZE, PAIRS, ROOM, NAME, SELF}
-use Rattle.rules.specs.State.{queued, go, due, Process, free, no-task, Core, Ends, nobody, Channel, State, Wiring}
+use Rattle.rules.specs.State.{queued, go, due, Process, free, no-task, Core, Ends, nobody, Channel, State}
 use Rattle.rules.specs.Items.{no-alternation}
 
 -- "The table has exactly T = 8 + 16K + 24N + 4M words."

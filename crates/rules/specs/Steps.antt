@@ -3,41 +3,7 @@
 use Prim.Native.Nat.{ℕ, _+_, _%_}
 use mathlib.Core.List.{List, [], _∷_, _++_}
 use Rattle.rules.specs.Numbers.{Answer, MOVED, SLEPT, GO, SENT, GOT, CHOSE, FAULT}
-use Rattle.rules.specs.State.{
-  Place,
-  running,
-  queued,
-  asleep,
-  ended,
-  Way,
-  sending,
-  receiving,
-  Stage,
-  look,
-  park,
-  copy,
-  clear,
-  wake,
-  Outcome,
-  go,
-  sent,
-  got,
-  chose,
-  Progress,
-  nothing,
-  doing,
-  due,
-  Task,
-  no-task,
-  trigger,
-  Work,
-  free,
-  Core,
-  ChannelWord,
-  nobody,
-  plain,
-  choosing,
-}
+use Rattle.rules.specs.State.{Place, running, queued, asleep, ended, Way, sending, receiving, Stage, park, copy, clear, wake, Outcome, go, sent, got, chose, Progress, nothing, doing, due, Task, no-task, trigger, Work, free, Core, ChannelWord, nobody, plain, choosing}
 use Rattle.rules.specs.Items.{core, place, data-word, progress, channel-word, transfers}
 use Rattle.rules.specs.Rule.{Rule, done, refuse, the, becomes, go-on, _>>=_, _>>_}
 

@@ -9,7 +9,7 @@ use Rattle.rules.specs.State.{Task}
 use Rattle.rules.specs.Items.{core-of}
 use Rattle.rules.specs.Packing.{view, word-at, core-at}
 use Rattle.packing.specs.Queues.{Queued}
-use Rattle.packing.proofs.ReadLaws.{core-list, read-core}
+use Rattle.rules.proofs.Packing.ReadLaws.{core-list, read-core}
 use Rattle.packing.proofs.Queued.{valid-queued}
 use Rattle.table.specs.Has.{HasCore}
 use Rattle.parts.proofs.Card.{view-valid, cores-are, card-core}

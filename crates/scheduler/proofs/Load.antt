@@ -16,8 +16,8 @@ use Rattle.rules.specs.Scheduler.{step}
 use Rattle.rules.specs.Packing.{pack, view, heads, word-at, core-at}
 use Rattle.rules.specs.Soundness.{not-empty}
 use Rattle.packing.specs.Queues.{load-table, with-queues, Queued}
-use Rattle.rules.proofs.Packing.Reflect.{both, within-means}
-use Rattle.packing.proofs.ReadLaws.{core-list, read-core}
+use Rattle.rules.proofs.Tests.{both, within-means}
+use Rattle.rules.proofs.Packing.ReadLaws.{core-list, read-core}
 use Rattle.packing.proofs.Load.{load-law}
 use Rattle.answers.specs.Four.{four}
 use Rattle.answers.specs.declared.Reply.{Reply}

@@ -43,7 +43,7 @@ use Rattle.rules.specs.Scheduler.{taken, step}
 use Rattle.rules.specs.Packing.{pack, view, word-at, core-at, process-at, progress-words}
 use Rattle.packing.specs.Queues.{Queued}
 use Rattle.packing.proofs.States.{length-set-nth}
-use Rattle.packing.proofs.ReadLaws.{core-list, read-core, read-progress}
+use Rattle.rules.proofs.Packing.ReadLaws.{core-list, read-core, read-progress}
 use Rattle.packing.proofs.Queued.{valid-queued}
 use Rattle.packing.proofs.Links.{Stands}
 use Rattle.packing.proofs.Standing.{first-stands}
@@ -167,7 +167,7 @@ module _ {t : List ℕ} {cores processes k : ℕ} (pre : Takes t cores processes
       let p = word-at t (core-at k 3) in
       subst₂ (λ (u : List ℕ) (m : ℕ). getD u (process-at m p (6 + j)) 0 ≡ getD (progress-words (process-of (after n) p .progress)) j 0)
       (sym (packs .is-pack)) (sym (packs .all-cores))
-      (read-progress (after n) p j (stands .low) (subst (λ (m : ℕ). p ≤ m) (sym (length-set-nth (view t .processes) p _)) (stands .high)) h)
+      (read-progress (after n) p (stands .low) (subst (λ (m : ℕ). p ≤ m) (sym (length-set-nth (view t .processes) p _)) (stands .high)) j h)
 
   -- what the code has written once the first process p runs, with the dispatch count one less
   module _ {p count : ℕ} {u : List ℕ} (head : p ≡ word-at t (core-at k 3)) (count-is : count ≡ word-at t (core-at k 6))

@@ -13,7 +13,7 @@ use Rattle.rules.specs.State.{State}
 use Rattle.rules.specs.Items.{core-of, channel-of}
 use Rattle.rules.specs.SetUp.{room, ends-of, new-core, new-process, new-channel, set-up-state}
 use Rattle.rules.specs.Packing.{header-words, core-words, process-words, channel-words, pack, core-at, process-at, channel-at}
-use Rattle.packing.proofs.Tests.{here-or-there}
+use Rattle.rules.proofs.Tests.{here-or-there}
 use Rattle.rules.proofs.Packing.Regions.{Dims, Words, Holds, Same, held-once}
 use Rattle.rules.proofs.Packing.Blocks.{dims, words-of, pack-holds, first-part, second-part}
 use Rattle.packing.proofs.Focus.{

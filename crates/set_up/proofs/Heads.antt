@@ -11,7 +11,7 @@ use borrow.Author.Tests.{eq-eqb, ne-eqb, le-leb, lt-leb, ltb-true, ltb-false}
 use Rattle.rules.specs.Lists.{if_then_else_, from, first, last, follows}
 use Rattle.rules.specs.SetUp.{its-batches}
 use Rattle.rules.specs.Packing.{heads}
-use Rattle.packing.proofs.QueueLists.{follows-first, follows-rest}
+use Rattle.rules.proofs.QueueLists.{follows-first, follows-rest}
 use Rattle.set_up.specs.Filled.{up-to, last-of}
 
 -- two numbers that differ by less than k, but differ, have different remainders

@@ -10,8 +10,8 @@ use Rattle.rules.specs.State.{Core, State, queues-of}
 use Rattle.rules.specs.Items.{core-of, process-of, channel-of, no-core, no-process}
 use Rattle.rules.specs.SetUp.{ends-of, new-core, new-process, new-channel, set-up-state}
 use Rattle.rules.specs.Packing.{heads, if-head, next-link, head-link, batch-link, core-words, process-words, channel-words, progress-words}
-use Rattle.packing.proofs.ReadLaws.{core-listed, own-words, link-words, process-split}
-use Rattle.packing.proofs.QueueLists.{follows-single, follows-rest, if-head-first, if-head-other}
+use Rattle.rules.proofs.Packing.ReadLaws.{core-listed, own-words, link-words, process-split}
+use Rattle.rules.proofs.QueueLists.{follows-single, follows-rest, if-head-first, if-head-other}
 use Rattle.rules.proofs.Tabulate.{tabulate-at}
 use Rattle.rules.proofs.Validity.SetUp.{total-none, total-one, batches-by}
 use Rattle.set_up.specs.Filled.{up-to, last-of}

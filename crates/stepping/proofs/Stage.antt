@@ -45,7 +45,7 @@ use Rattle.rules.specs.Rule.{Ran, run}
 use Rattle.rules.specs.Scheduler.{running-step, stage-step, work-step, step}
 use Rattle.rules.specs.Packing.{view, K-of, N-of, process-at, progress-from, ready-from}
 use Rattle.rules.specs.Soundness.{valid-work}
-use Rattle.rules.proofs.Packing.Reflect.{within-means}
+use Rattle.rules.proofs.Tests.{within-means}
 use Rattle.answers.specs.Four.{four}
 use Rattle.answers.specs.declared.Reply.{Reply}
 use Rattle.parts.specs.Does.{Card, At, Comes, Does, of-way}

@@ -17,8 +17,8 @@ use Rattle.rules.specs.Choice.{trigger-step}
 use Rattle.rules.specs.Scheduler.{work-step, step}
 use Rattle.rules.specs.Packing.{view, word-at, core-at, process-at, place-number, work-words, work-from}
 use Rattle.packing.specs.Queues.{push-table}
-use Rattle.rules.proofs.Packing.Reflect.{within-means}
-use Rattle.packing.proofs.ReadLaws.{read-core}
+use Rattle.rules.proofs.Tests.{within-means}
+use Rattle.rules.proofs.Packing.ReadLaws.{read-core}
 use Rattle.answers.specs.Four.{four}
 use Rattle.answers.specs.declared.Reply.{Reply}
 use Rattle.table.specs.Has.{HasProcess, HasCore}

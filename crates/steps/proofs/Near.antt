@@ -10,7 +10,7 @@ use Rattle.rules.specs.State.{Way, Stage, look, park, copy, clear, wake, wiring
 use Rattle.rules.specs.Items.{channel-of}
 use Rattle.rules.specs.Packing.{view, channel-at, word-from}
 use Rattle.rules.specs.Soundness.{is-process, own-end}
-use Rattle.rules.proofs.Packing.Reflect.{both, within-means}
+use Rattle.rules.proofs.Tests.{both, within-means}
 use Rattle.words.specs.Meaning.{meaning}
 use Rattle.words.specs.declared.Holder.{Holder}
 use Rattle.table.specs.Has.{HasCore, HasProcess, HasChannel}

@@ -13,7 +13,7 @@ use Rattle.rules.specs.Packing.{pack, view, process-at, channel-at, place-numbe
 use Rattle.rules.specs.Steps.{with-work, with-active}
 use Rattle.packing.specs.Queues.{push-table, Queued}
 use Rattle.packing.proofs.Focus.{writes, below}
-use Rattle.packing.proofs.ReadLaws.{read-process, read-channel, listed, after-work}
+use Rattle.rules.proofs.Packing.ReadLaws.{read-process, read-channel, listed, after-work}
 use Rattle.packing.proofs.States.{length-set-nth}
 use Rattle.packing.proofs.WriteLaws.{put-place, put-data-word, put-progress, on-listed, put-channel-word, put-transfers, put-core}
 use Rattle.parts.specs.Does.{Card}

@@ -7,29 +7,18 @@ use mathlib.Core.List.{List, [], _∷_}
 use native.Mathlib.Omega.{arith}
 use lib.Dec.{T, eqb, leb, eqb→eq}
 use lib.ListN.{length, getD}
-use borrow.Author.Tests.{leb-true, leb-false, eq-eqb, ne-eqb}
+use borrow.Author.Tests.{leb-true, leb-false, ne-eqb}
 use Rattle.rules.specs.Lists.{if_then_else_, total, times, bit, first, follows}
 use Rattle.rules.specs.State.{Place, running, queued, asleep, ended, Core, queues-of, State}
 use Rattle.rules.specs.Items.{core-of, process-of, no-core}
 use Rattle.rules.specs.Packing.{heads, next-link, batch-link, chain}
 use Rattle.rules.specs.Soundness.{in-queues, stands, not-empty}
-use Rattle.rules.proofs.Packing.Reflect.{both, Valid}
+use Rattle.rules.proofs.Tests.{both}
+use Rattle.rules.proofs.Packing.Reflect.{Valid}
+use Rattle.rules.proofs.QueueLists.{follows-none, follows-first}
 use Rattle.rules.proofs.Sums.{total-le, term-le-total, positive-term, total-zero, total-only, total-map, Among, among-length, head-stands}
 
 -- One list
-
--- what follows a list's first number there
-pub follows-head : (x : ℕ) (xs : List ℕ) → follows x (x ∷ xs) ≡ first xs
-follows-head x xs = ap (λ (t : Bool). if t then first xs else follows x xs) (eq-eqb x x refl)
-
--- nothing follows a number that doesn't stand in the list
-pub follows-none : (p : ℕ) (l : List ℕ) → times p l ≡ 0 → follows p l ≡ 0
-follows-none p [] e = refl
-follows-none p (x ∷ xs) e = cases (eqb x p) refl (follows-none p xs)
-  where
-    cases : (t : Bool) → eqb x p ≡ t → (times p xs ≡ 0 → follows p xs ≡ 0) → (if t then first xs else follows p xs) ≡ 0
-    cases true q rest = absurd (omega (arith, ap bit q))
-    cases false q rest = rest (omega arith)
 
 -- a number that stands behind the first of a list of distinct numbers is another
 stands-behind : (n x : ℕ) (xs : List ℕ) → Among n (x ∷ xs) → (p : ℕ) → 1 ≤ times p xs → eqb x p ≡ false
@@ -49,7 +38,7 @@ chain-to m zero link (x ∷ xs) a b e = absurd (omega arith)
 chain-to m (suc n) link (zero ∷ xs) a b e = absurd (omega (arith, a .range 0 (omega (arith, head-stands 0 xs))))
 chain-to m (suc n) link (suc x ∷ xs) a b e =
     ap (λ (l : List ℕ). suc x ∷ l)
-    (ap (chain link n) (e (suc x) (omega (arith, head-stands (suc x) xs)) ∙ follows-head (suc x) xs)
+    (ap (chain link n) (e (suc x) (omega (arith, head-stands (suc x) xs)) ∙ follows-first (suc x) xs)
     ∙ chain-to m n link xs (among-tail m (suc x) xs a) (omega arith) behind)
   where
     behind : (p : ℕ) → 1 ≤ times p xs → link p ≡ follows p xs
@@ -100,7 +89,7 @@ module _ (s : State) (v : Valid s) where
       cases : (t : Bool) → leb 1 (in-queues s p) ≡ t → in-queues s p ≤ 1
       cases true q =
           let r = queued-range p (leb-true 1 (in-queues s p) q) in
-          stands-once _ (in-queues s p) (process-of s p .place) (v .processes p (r .0) (r .1) .stands)
+          stands-once _ (in-queues s p) (process-of s p .place) (v .processes p (r .0) (r .1) .standing)
       cases false q = omega (arith, leb-false 1 (in-queues s p) q)
 
   module _ (k : ℕ) (b : k < length (s .cores)) where

@@ -9,7 +9,8 @@ use Rattle.rules.specs.Packing.{pack, view-core, view-process, view-chan
 use Rattle.rules.specs.Soundness.{valid, sound}
 use Rattle.rules.specs.Claims.{ViewOfPack, OnePacking, SoundMeans}
 use Rattle.rules.proofs.Tabulate.{tabulate-back, tabulate-nth}
-use Rattle.rules.proofs.Packing.Reflect.{both, together, same-words-means, same-words-refl, valid-means}
+use Rattle.rules.proofs.Tests.{both, together, same-words-means, same-words-refl}
+use Rattle.rules.proofs.Packing.Reflect.{valid-means}
 use Rattle.rules.proofs.Packing.Reading.{header-of-pack}
 use Rattle.rules.proofs.Packing.ViewCore.{view-core-back}
 use Rattle.rules.proofs.Packing.ViewProcess.{view-process-back}

@@ -11,7 +11,8 @@ use Rattle.rules.specs.State.{ChannelWord, nobody, plain, choosing, Stat
 use Rattle.rules.specs.Items.{channel-of}
 use Rattle.rules.specs.Packing.{word-number, word-from, channel-words, pack, channel-word, view-channel}
 use Rattle.rules.specs.Soundness.{valid-word}
-use Rattle.rules.proofs.Packing.Reflect.{within-means, not-zero, Valid}
+use Rattle.rules.proofs.Tests.{within-means, not-zero}
+use Rattle.rules.proofs.Packing.Reflect.{Valid}
 use Rattle.rules.proofs.Packing.Reading.{channel-word-of-pack}
 
 -- a number that isn't 0, as a channel word: its half, plain where it is even

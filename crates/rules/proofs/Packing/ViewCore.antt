@@ -12,10 +12,12 @@ use Rattle.rules.specs.Items.{core-of}
 use Rattle.rules.specs.Packing.{work-words, heads, core-words, pack, N-of, core-word, process-word, work-from, chain, view-core}
 use Rattle.rules.specs.Soundness.{valid-work}
 use Rattle.rules.proofs.Packing.Blocks.{length-work-words, first-part, second-part, pack-holds}
-use Rattle.rules.proofs.Packing.Reflect.{within-means, not-zero, Valid}
+use Rattle.rules.proofs.Tests.{within-means, not-zero}
+use Rattle.rules.proofs.Packing.Reflect.{Valid}
 use Rattle.rules.proofs.Sums.{Among}
 use Rattle.rules.proofs.Packing.Chains.{chain-back, queue-of, queue-among, next-follows, heads-among, batch-follows}
-use Rattle.rules.proofs.Packing.Reading.{bit-back, header-of-pack, link-words, link-word}
+use Rattle.rules.proofs.Packing.ReadLaws.{link-words}
+use Rattle.rules.proofs.Packing.Reading.{bit-back, header-of-pack, link-word}
 
 -- what a core does, of its three words
 abbrev work-of-words : List ℕ → Work

@@ -60,8 +60,10 @@ use Rattle.rules.specs.Packing.{
 use Rattle.rules.specs.Soundness.{own-end, own-guards, in-list, ready-in-list, valid-enabling, valid-disabling, valid-progress}
 use Rattle.rules.proofs.Packing.Blocks.{length-progress-words}
 use Rattle.rules.proofs.Tabulate.{tabulate-back}
-use Rattle.rules.proofs.Packing.Reflect.{both, three, within-means, not-zero, Valid}
-use Rattle.rules.proofs.Packing.Reading.{bit-back, state-words, state-word, progress-word}
+use Rattle.rules.proofs.Tests.{both, three, within-means, not-zero}
+use Rattle.rules.proofs.Packing.Reflect.{Valid}
+use Rattle.rules.proofs.Packing.ReadLaws.{state-words}
+use Rattle.rules.proofs.Packing.Reading.{bit-back, state-word, progress-word}
 
 -- a place is read back from its number
 place-back : (x : Place) → place-from (place-number x) ≡ x
@@ -158,7 +160,7 @@ module _ (s : State) (v : Valid s) (p : ℕ) (l : 1 ≤ p) (b : p ≤ length (s 
   progress-read =
       let x = process-of s p .progress in
       let at : (f : ℕ) → f < 14 → process-word (pack s) p (6 + f) ≡ getD (progress-words x) f 0 = progress-word s p l b in
-      let back = progress-back (wiring s) p x (v .processes p l b .progress) in
+      let back = progress-back (wiring s) p x (v .processes p l b .in-hand) in
       cc (at 0 (lit< tt), at 1 (lit< tt), at 2 (lit< tt), at 3 (lit< tt), at 4 (lit< tt), at 5 (lit< tt), guard-words, back)
 
   -- A process is read back from the packing of a valid state.

@@ -13,8 +13,9 @@ use Rattle.rules.specs.State.{Place, Progress, Alternation, Process, Cor
 use Rattle.rules.specs.Items.{core, put, no-core, no-process, no-channel, core-of, process-of, channel-of}
 use Rattle.rules.specs.Soundness.{is-process, valid-progress, fits, runs-it, on-cores, in-queues, stands, valid-core, valid-channel}
 use Rattle.rules.proofs.Tests.{tests, all-set}
-use Rattle.rules.proofs.Validity.Sums.{total-set}
-use Rattle.rules.proofs.Validity.Reflect.{Good, AllBut, Valid, good-of}
+use Rattle.rules.proofs.Sums.{total-set}
+use Rattle.rules.proofs.Good.{Good}
+use Rattle.rules.proofs.Validity.Reflect.{AllBut, Valid, good-of}
 
 module _ {A : Type 0} where
   -- a list with another n-th is as long as before

@@ -11,8 +11,9 @@ use Rattle.rules.specs.Items.{core, put, no-core, core-of, process-of}
 use Rattle.rules.specs.Steps.{with-work, with-active}
 use Rattle.rules.specs.Soundness.{is-process, runs-it, on-cores, in-queues, stands, valid-work, not-empty, valid-core}
 use Rattle.rules.proofs.Tests.{tests, and-means, leb-means, all-at, all-append}
-use Rattle.rules.proofs.Validity.Sums.{total-append, counts-once, counts-not}
-use Rattle.rules.proofs.Validity.Reflect.{Good, AllBut, Valid, good-of}
+use Rattle.rules.proofs.Sums.{total-append, counts-once, counts-not}
+use Rattle.rules.proofs.Good.{Good}
+use Rattle.rules.proofs.Validity.Reflect.{AllBut, Valid, good-of}
 use Rattle.rules.proofs.Validity.Changes.{changed, Open, open-at, close, change, queued-in, Alike, cores-after, queues-after, set-core}
 
 -- What `valid-core` asks.
@@ -57,7 +58,7 @@ module _ {w : Wiring} {s : State} where
   -- a core of the table is as it should be
   pub core-good : (p k : ℕ) → AllBut w p s → k < w .K → GoodCore w (core-of s k)
   core-good p k a b =
-      good-core w (core-of s k) (all-at (valid-core w) (s .cores) k no-core (a .cores) (omega (arith, ap (λ (x : Wiring). x .K) (a .wired))))
+      good-core w (core-of s k) (all-at (valid-core w) (s .cores) no-core (a .cores) k (omega (arith, ap (λ (x : Wiring). x .K) (a .wired))))
 
   -- a change of a process's record that keeps it as it should be
   pub amend : (p : ℕ) (f : Process → Process) → Valid w s → T (is-process w p)

@@ -1,34 +1,16 @@
 -- Validity as facts: of a state all of whose processes but one are as they should be, and of that one.
-use Prim.Native.Nat.{ℕ, _≤_, _<_}
+use Prim.Native.Nat.{ℕ}
 use native.Mathlib.Omega.{arith}
 use mathlib.Core.Path.{_≡_, refl, sym, subst}
 use lib.Dec.{T}
 use lib.ListN.{length, length-map}
 use Rattle.rules.specs.Lists.{all}
-use Rattle.rules.specs.State.{Process, Channel, State, Wiring, wiring}
+use Rattle.rules.specs.State.{Channel, State, Wiring, wiring}
 use Rattle.rules.specs.Items.{process-of}
 use Rattle.rules.specs.SetUp.{sizes}
-use Rattle.rules.specs.Soundness.{
-  is-process,
-  valid-progress,
-  fits,
-  on-cores,
-  in-queues,
-  stands,
-  valid-process,
-  valid-core,
-  valid-channel,
-  valid,
-}
-use Rattle.rules.proofs.Tests.{tests, and-means, leb-means, all-from, tabulate-all}
-
--- What `valid-process` asks of process p with the record r, that runs on `here` cores and stands `there` times in a queue.
-pub record Good (w : Wiring) (p : ℕ) (r : Process) (here there : ℕ) : Type 0 where
-  pub word : r .data-word < 4294967296
-  pub count : r .alternation .count ≤ 9
-  pub in-hand : T (valid-progress w p (r .progress))
-  pub fitting : T (fits (r .place) (r .progress))
-  pub standing : T (stands here there (r .place))
+use Rattle.rules.specs.Soundness.{is-process, on-cores, in-queues, valid-process, valid-core, valid-channel, valid}
+use Rattle.rules.proofs.Tests.{tests, and-means, all-from, tabulate-all}
+use Rattle.rules.proofs.Good.{Good, good, good-tested}
 
 -- A state with the wiring w in which all is valid, but perhaps for process p.
 pub record AllBut (w : Wiring) (p : ℕ) (s : State) : Type 0 where
@@ -46,18 +28,6 @@ Valid w s = AllBut w 0 s
 pub good-of : {w : Wiring} {s : State} (p : ℕ) → Valid w s → T (is-process w p) → Good w p (process-of s p) (on-cores s p) (in-queues s p)
 good-of p v is = v .others p is (λ e. omega (arith, simp tests at is))
 
--- `valid-process` is the fact
-good : (s : State) (p : ℕ) → T (valid-process s p) → Good (wiring s) p (process-of s p) (on-cores s p) (in-queues s p)
-unfolding valid-process
-good s p h =
-    let h′ = simp (and-means, leb-means) at h in
-    record { word = h′ .0 .0 .0 .0; count = h′ .0 .0 .0 .1; in-hand = h′ .0 .0 .1; fitting = h′ .0 .1; standing = h′ .1 }
-
--- and the other way
-good-tested : (s : State) (p : ℕ) → Good (wiring s) p (process-of s p) (on-cores s p) (in-queues s p) → T (valid-process s p)
-unfolding valid-process
-good-tested s p g = simp (and-means, leb-means) ((((g .word, g .count), g .in-hand), g .fitting), g .standing)
-
 -- `valid` is the fact
 pub reflected : (s : State) → T (valid s) → Valid (wiring s) s
 unfolding valid
@@ -70,7 +40,7 @@ reflected s h =
       others =
           λ q is _.
           let (low, high) = simp tests at is in
-          good s q (all-from (valid-process s) 1 (length (s .processes)) q (h′ .0 .1) low (omega arith));
+          good s q (all-from (valid-process s) 1 (length (s .processes)) (h′ .0 .1) q low (omega arith));
       channels = h′ .1;
     }
 

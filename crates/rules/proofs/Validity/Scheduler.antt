@@ -57,8 +57,9 @@ use Rattle.rules.specs.Soundness.{
   not-empty,
 }
 use Rattle.rules.proofs.Tests.{and-means, all-append}
-use Rattle.rules.proofs.Validity.Sums.{total-append, counts-once}
-use Rattle.rules.proofs.Validity.Reflect.{Good, Valid, good-of}
+use Rattle.rules.proofs.Sums.{total-append, counts-once}
+use Rattle.rules.proofs.Good.{Good}
+use Rattle.rules.proofs.Validity.Reflect.{Valid, good-of}
 use Rattle.rules.proofs.Validity.Changes.{with-place, with-progress, refit, Open, open-at, close, change, queued-in, queues-after}
 use Rattle.rules.proofs.Validity.Places.{stands-once, core-good, same-standing, taken-off, Runs, running-good, works-on, runs-there}
 use Rattle.rules.proofs.Validity.Rules.{Accepts, reports-clears}

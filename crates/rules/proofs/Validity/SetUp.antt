@@ -3,12 +3,12 @@ use Prim.Native.Nat.{ℕ, zero, suc, _+_, _*_, _-_, _%_, _≤_, _<_}
 use native.Mathlib.Omega.{arith}
 use native.Mathlib.Decide.{ℕ-discrete}
 use native.Mathlib.Nat.{mod-lt}
-use mathlib.Core.Path.{_≡_, refl, sym, ap, _∙_}
+use mathlib.Core.Path.{_≡_, refl, sym, ap}
 use mathlib.Core.Bool.{Bool, true, false, _&&_}
 use mathlib.Core.List.{List, [], _∷_, map}
 use mathlib.Core.Option.{Option, none, some}
 use lib.Dec.{T, eqb, eqb→eq}
-use lib.ListN.{length, getD}
+use lib.ListN.{length}
 use borrow.Author.Tests.{eqb-true, eqb-false}
 use Rattle.rules.specs.Lists.{if_then_else_, within, all, total, tabulate, from, bit, times}
 use Rattle.rules.specs.Numbers.{Refusal, SIZE, PAIRS, ROOM, NAME, SELF}
@@ -17,7 +17,8 @@ use Rattle.rules.specs.Items.{no-process, process-of}
 use Rattle.rules.specs.SetUp.{room, sizes, ends-of, proper-pairs, set-up-refusal, its-batches, new-core, new-process, new-channel, set-up-state}
 use Rattle.rules.specs.Soundness.{is-process, on-cores, in-queues, not-empty, valid-core, valid-channel, valid}
 use Rattle.rules.proofs.Tests.{tests, and-means, tabulate-all}
-use Rattle.rules.proofs.Validity.Sums.{counts-once, counts-not}
+use Rattle.rules.proofs.Tabulate.{length-tabulate, tabulate-at}
+use Rattle.rules.proofs.Sums.{counts-once, counts-not}
 use Rattle.rules.proofs.Validity.Reflect.{Valid, tested}
 use Rattle.rules.proofs.Validity.Changes.{queued-in}
 use Rattle.rules.proofs.Validity.Places.{GoodCore, good-core-tested}
@@ -26,17 +27,6 @@ use Rattle.rules.proofs.Validity.Channels.{GoodChannel, good-channel-te
 -- Lists by their numbers
 
 module _ {A : Type 0} (g : ℕ → A) where
-  -- the length of n of them
-  length-tabulate : (a n : ℕ) → length (tabulate g a n) ≡ n
-  length-tabulate a zero = refl
-  length-tabulate a (suc n) = ap suc (length-tabulate (suc a) n)
-
-  -- the one at a place
-  getD-tabulate : (a n i : ℕ) (d : A) → i < n → getD (tabulate g a n) i d ≡ g (a + i)
-  getD-tabulate a zero i d h = absurd (omega arith)
-  getD-tabulate a (suc n) zero d h = ap g (omega arith)
-  getD-tabulate a (suc n) (suc i) d h = getD-tabulate (suc a) n i d (omega arith) ∙ ap g (omega arith)
-
   module _ (f : A → ℕ) where
     -- a sum of which each part is 0
     pub total-none : (a n : ℕ) → ((i : ℕ) → a ≤ i → f (g i) ≡ 0) → total f (tabulate g a n) ≡ 0
@@ -150,7 +140,7 @@ module _ (k n : ℕ) (pairs : List ℕ) where
   -- each process is new
   set-up-process : (p : ℕ) → T (within 1 n p) → process-of (set-up-state k n pairs) p ≡ new-process p
   set-up-process zero is = absurd (omega (arith, simp tests at is))
-  set-up-process (suc i) is = getD-tabulate new-process 1 n i no-process (omega (arith, simp tests at is))
+  set-up-process (suc i) is = tabulate-at new-process 1 n no-process i (omega (arith, simp tests at is))
 
   -- it runs nowhere
   set-up-cores : (p : ℕ) → on-cores (set-up-state k n pairs) p ≡ 0

@@ -3,13 +3,13 @@ use Prim.Native.Nat.{ℕ, zero, suc, _+_, _≤_, _<_}
 use mathlib.Core.Path.{_≡_, refl, sym, ap, _∙_}
 use mathlib.Core.List.{List, [], _∷_, _++_}
 use native.Mathlib.Omega.{arith}
-use native.Mathlib.Nat.{zero-add, add-zero}
+use native.Mathlib.Nat.{zero-add}
 use lib.ListN.{length, getD}
 use lib.Seq.{ext-getD}
 use Rattle.rules.specs.Lists.{tabulate, bit, first, last}
 use Rattle.rules.specs.State.{Alternation, Process, Core, Channel, State}
 use Rattle.rules.specs.Items.{core-of, process-of, channel-of}
 use Rattle.rules.specs.Packing.{
   place-number,
   word-number,
   work-words,
@@ -28,22 +28,10 @@ use Rattle.rules.specs.Packing.{
   process-at,
   channel-at,
 }
+use Rattle.rules.proofs.Tabulate.{length-tabulate, tabulate-at}
 use Rattle.rules.proofs.Packing.Blocks.{pack-holds, length-padded, length-work-words, length-progress-words, first-part, second-part}
 
 -- A list written out
-
--- how long a tabulated list is
-pub length-tabulate : (f : ℕ → ℕ) (a n : ℕ) → length (tabulate f a n) ≡ n
-length-tabulate f a zero = refl
-length-tabulate f a (suc n) = ap suc (length-tabulate f (suc a) n)
-
--- the i-th of a tabulated list
-pub getD-tabulate : (f : ℕ → ℕ) (a n i : ℕ) → i < n → getD (tabulate f a n) i 0 ≡ f (a + i)
-getD-tabulate f a zero i h = absurd (omega arith)
-getD-tabulate f a (suc n) zero h = ap f (sym (add-zero a))
-getD-tabulate f a (suc n) (suc i) h =
-    let e : suc a + i ≡ a + suc i = omega arith in
-    getD-tabulate f (suc a) n i (omega arith) ∙ ap f e
 
 -- a list of n words, written out word by word
 abbrev pub listed : List ℕ → ℕ → List ℕ
@@ -56,7 +44,7 @@ same-listed l m n e same = ext-getD 0 m (listed l n) (e ∙ sym (length-tabulate
     each : (i : ℕ) → i < length m → getD m i 0 ≡ getD (listed l n) i 0
     each i h =
         let b : i < n = omega (arith, e) in
-        same i b ∙ sym (getD-tabulate (λ i. getD l i 0) 0 n i b ∙ ap (λ (j : ℕ). getD l j 0) (zero-add i))
+        same i b ∙ sym (tabulate-at (λ i. getD l i 0) 0 n 0 i b ∙ ap (λ (j : ℕ). getD l j 0) (zero-add i))
 
 -- the list itself
 pub listed-same : (l : List ℕ) (n : ℕ) → length l ≡ n → l ≡ listed l n
@@ -92,8 +80,11 @@ core-listed c = ap (λ (l : List ℕ). l ++ after-work c) (listed-same (work-wor
 abbrev pub alternation-words : Alternation → List ℕ
 alternation-words a = bit (a .enabling) ∷ bit (a .not-ready) ∷ bit (a .waiting) ∷ a .count ∷ []
 
+abbrev pub state-words : Process → List ℕ
+state-words r = place-number (r .place) ∷ r .data-word ∷ alternation-words (r .alternation)
+
 abbrev pub own-words : Process → List ℕ
-own-words r = place-number (r .place) ∷ r .data-word ∷ alternation-words (r .alternation) ++ progress-words (r .progress)
+own-words r = state-words r ++ progress-words (r .progress)
 
 -- its links, words 20 to 23: next, and for a batch's head its last, its size and the next head
 abbrev pub link-words : State → ℕ → List ℕ
@@ -107,18 +98,14 @@ process-split s p = refl
 -- all 24, written out
 abbrev pub process-list : State → ℕ → List ℕ
 process-list s p =
-    let r = process-of s p in
-    place-number (r .place) ∷ r .data-word ∷ alternation-words (r .alternation)
-    ++ listed (progress-words (r .progress)) 14
-    ++ link-words s p
+    let r = process-of s p in state-words r ++ listed (progress-words (r .progress)) 14 ++ link-words s p
 
 -- these are the words of the packing
 pub process-listed : (s : State) (p : ℕ) → process-words s p ≡ process-list s p
 process-listed s p =
     let r = process-of s p in
     process-split s p
-    ∙ ap (λ (l : List ℕ). place-number (r .place) ∷ r .data-word ∷ alternation-words (r .alternation) ++ l ++ link-words s p)
-    (listed-same (progress-words (r .progress)) 14 (length-progress-words (r .progress)))
+    ∙ ap (λ (l : List ℕ). state-words r ++ l ++ link-words s p) (listed-same (progress-words (r .progress)) 14 (length-progress-words (r .progress)))
 
 -- a channel's 4
 abbrev pub channel-list : Channel → List ℕ
@@ -150,13 +137,35 @@ pub read-channel : (s : State) (c f : ℕ) → 1 ≤ c → c ≤ length (s .chan
 unfolding channel-words
 read-channel s c f l h b = pack-holds s .channel c f l h b
 
--- the word j of a process's progress, also where j is no literal
-pub read-progress : (s : State) (p j : ℕ) → 1 ≤ p → p ≤ length (s .processes) → j < 14
-    → getD (pack s) (process-at (length (s .cores)) p (6 + j)) 0 ≡ getD (progress-words (process-of s p .progress)) j 0
-read-progress s p j l h b =
-    let r = process-of s p in
-    pack-holds s .process p (6 + j) l h (omega arith)
-    ∙ ap (λ (l : List ℕ). getD l (6 + j) 0) (process-split s p)
-    ∙ second-part (place-number (r .place) ∷ r .data-word ∷ alternation-words (r .alternation))
-    (progress-words (r .progress) ++ link-words s p) 6 j refl
-    ∙ first-part (progress-words (r .progress)) (link-words s p) 14 j (length-progress-words (r .progress)) b
+-- The parts of a process, also where the word's number is no literal.
+module _ (s : State) (p : ℕ) (low : 1 ≤ p) (high : p ≤ length (s .processes)) where
+  -- where the packing keeps the word f of process p
+  abbrev at : ℕ → ℕ
+  at f = getD (pack s) (process-at (length (s .cores)) p f) 0
+
+  -- what it has in hand
+  abbrev in-hand : List ℕ
+  in-hand = progress-words (process-of s p .progress)
+
+  whole : (f : ℕ) → f < 24 → at f ≡ getD (own-words (process-of s p) ++ link-words s p) f 0
+  whole f b = pack-holds s .process p f low high b ∙ ap (λ (l : List ℕ). getD l f 0) (process-split s p)
+
+  -- a word before its progress
+  pub read-state : (f : ℕ) → f < 6 → at f ≡ getD (state-words (process-of s p)) f 0
+  read-state f b = whole f (omega arith) ∙ first-part (state-words (process-of s p)) (in-hand ++ link-words s p) 6 f refl b
+
+  -- a word from its progress on
+  behind : (j : ℕ) → j < 18 → at (6 + j) ≡ getD (in-hand ++ link-words s p) j 0
+  behind j b = whole (6 + j) (omega arith) ∙ second-part (state-words (process-of s p)) (in-hand ++ link-words s p) 6 j refl
+
+  -- the word j of its progress
+  pub read-progress : (j : ℕ) → j < 14 → at (6 + j) ≡ getD in-hand j 0
+  read-progress j b =
+      behind j (omega arith) ∙ first-part in-hand (link-words s p) 14 j (length-progress-words (process-of s p .progress)) b
+
+  -- the word j of its links
+  pub read-link : (j : ℕ) → j < 4 → at (20 + j) ≡ getD (link-words s p) j 0
+  read-link j b =
+      let e : 20 + j ≡ 6 + (14 + j) = omega arith in
+      ap at e ∙ behind (14 + j) (omega arith)
+      ∙ second-part in-hand (link-words s p) 14 j (length-progress-words (process-of s p .progress))
