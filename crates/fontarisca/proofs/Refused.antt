@@ -1,17 +1,15 @@
 -- What the code's tests say of the first refusals.
-use Prim.Native.Nat.{ℕ, suc, _≤_, _<_}
-use mathlib.Core.Path.{_≡_, refl, sym, ap, _∙_}
+use Prim.Native.Nat.{ℕ, _≤_, _<_}
+use mathlib.Core.Path.{_≡_, refl, sym, _∙_}
 use mathlib.Core.Bool.{Bool, true, false, false≢true}
 use mathlib.Core.List.{List}
 use native.Mathlib.Omega.{arith}
-use lib.Dec.{T, leb, eqb, ltb, leb→le}
+use lib.Dec.{T, leb, eqb, leb→le}
 use lib.ListN.{length, getD}
 use borrow.Author.Tests.{eq-eqb, ne-eqb, lt-ltb, le-ltb}
-use Rattle.rules.specs.Lists.{if_then_else_}
 use Rattle.rules.specs.SetUp.{sizes, room}
 use Rattle.rules.specs.Packing.{K-of}
-use Rattle.rules.specs.Soundness.{sound}
-use Rattle.fitting.specs.Twin.{word, zeros, header-fits, rest-fits, table-fits}
+use Rattle.fitting.specs.Twin.{word, zeros, header-fits, table-fits}
 use Rattle.fitting.proofs.FitsIsSound.{fits-is-sound}
 use Rattle.rules.proofs.Tests.{four}
 use Rattle.fontarisca.specs.First.{first-refusal}

@@ -1,53 +1,22 @@
 -- A call is its first refusals, then what its rule comes to; what the code tells of that is what the call's definition says.
-use Prim.Native.Nat.{ℕ, zero, suc, _<_}
-use mathlib.Core.Path.{_≡_, refl, sym, ap, ap₂, _∙_, subst}
+use Prim.Native.Nat.{ℕ, suc, _<_}
+use mathlib.Core.Path.{_≡_, refl, sym, ap, _∙_, subst}
 use mathlib.Core.Bool.{Bool, true, false}
 use mathlib.Core.List.{List}
 use native.Mathlib.Omega.{arith}
 use lib.Dec.{T, eqb, ltb}
-use lib.ListN.{length, getD}
+use lib.ListN.{length}
 use borrow.Author.Tests.{eqb-true, eq-eqb, ltb-true, lt-ltb}
-use Rattle.rules.specs.Lists.{if_then_else_}
-use Rattle.rules.specs.Numbers.{
-  Answer,
-  BUILT,
-  TAKEN,
-  MOVED,
-  SLEPT,
-  IDLE,
-  GO,
-  SENT,
-  GOT,
-  CHOSE,
-  Refusal,
-  SIZE,
-  PAIRS,
-  ROOM,
-  NAME,
-  SELF,
-  ANSWER,
-  DAMAGED,
-  CORE,
-  BUSY,
-  AWAITED,
-  GUARDS,
-  CHANNEL,
-  OTHER-END,
-  TWICE,
-  FAULT,
-  yes-with,
-  no-because,
-  words-of,
-  number-of,
-}
+use Rattle.rules.specs.Numbers.{Answer, BUILT, TAKEN, MOVED, SLEPT, IDLE, GO, SENT, GOT, CHOSE, Refusal, SIZE, PAIRS, ROOM, NAME, SELF, ANSWER, DAMAGED, CORE, BUSY, AWAITED, GUARDS, CHANNEL, OTHER-END, TWICE, FAULT, yes-with, no-because, words-of}
 use Rattle.rules.specs.State.{wiring}
 use Rattle.rules.specs.Rule.{Ran, accepted, refused, run}
 use Rattle.rules.specs.Packing.{view, K-of}
 use Rattle.rules.specs.Soundness.{sound}
-use Rattle.rules.specs.Calls.{Result, Ask, refusal, rule-of, outcome-of, call}
+use Rattle.rules.specs.Calls.{Ask, rule-of, outcome-of, call}
+use Rattle.rules.specs.Claims.{gives, Meets}
 use Rattle.answers.specs.Four.{four, words-after}
 use Rattle.answers.specs.declared.Reply.{Reply}
-use Rattle.parts.specs.Does.{Comes, Does, Card}
+use Rattle.parts.specs.Does.{Comes, Does}
 use Rattle.parts.proofs.Card.{K-is, length-is}
 use Rattle.fontarisca.specs.First.{first-refusal}
 
@@ -81,22 +50,17 @@ refused-words OTHER-END old = refl
 refused-words TWICE old = refl
 refused-words FAULT old = refl
 
--- the number n, the answer words w and the table u are those of a result
-pub record Is (x : Result) (n : ℕ) (w u : List ℕ) : Type 0 where
-  pub number : n ≡ x .number
-  pub answer : w ≡ x .answer
-  pub table : u ≡ x .table
-
 -- what the code tells of what a rule came to
-told : (x : Ran Answer) (t answer u : List ℕ) (r : Reply) → Comes x t r u → Is (outcome-of t answer x) (r .number) (words-after r answer) u
-told (accepted a s) t answer u r h = record {
+told : (x : Ran Answer) (t answer w u : List ℕ) (r : Reply) → Comes x t r u → w ≡ words-after r answer
+    → Meets (outcome-of t answer x) (gives (r .number) w u)
+told (accepted a s) t answer w u r h e = record {
   number = ap (λ (r : Reply). r .number) (h .0);
-  answer = ap (λ (r : Reply). words-after r answer) (h .0) ∙ accepted-words a answer;
+  answer = e ∙ ap (λ (r : Reply). words-after r answer) (h .0) ∙ accepted-words a answer;
   table = h .1;
 }
-told (refused why) t answer u r h = record {
+told (refused why) t answer w u r h e = record {
   number = ap (λ (r : Reply). r .number) (h .0);
-  answer = ap (λ (r : Reply). words-after r answer) (h .0) ∙ refused-words why answer;
+  answer = e ∙ ap (λ (r : Reply). words-after r answer) (h .0) ∙ refused-words why answer;
   table = h .1;
 }
 
@@ -130,43 +94,34 @@ allowed t answer k e = by-answer (eqb (length answer) 3) refl
 
 module _ (t answer : List ℕ) (k : ℕ) (ask : Ask) where
   -- a call that is refused first
-  pub refused-first : (n : ℕ) → first-refusal t answer k ≡ n → (n ≡ 0 → ⊥) → Is (call t answer k ask) n answer t
+  pub refused-first : (n : ℕ) → first-refusal t answer k ≡ n → (n ≡ 0 → ⊥) → Meets (call t answer k ask) (gives n answer t)
   unfolding call
   refused-first n e some = by-answer (eqb (length answer) 3) refl
     where
-      by-core : (b : Bool) → ltb k (K-of t) ≡ b → eqb (length answer) 3 ≡ true → sound t ≡ true → Is (call t answer k ask) n answer t
+      by-core : (b : Bool) → ltb k (K-of t) ≡ b → eqb (length answer) 3 ≡ true → sound t ≡ true → Meets (call t answer k ask) (gives n answer t)
       by-core true f g h = absurd (some (sym e ∙ rw (g, h, f)))
       by-core false f g h =
           let sure : T (sound t) = rw h tt in
           let none : ltb k (length (view t .cores)) ≡ false = ap (ltb k) (sym (K-is t sure)) ∙ f in
           rw (g, h, none) (record { number = sym e ∙ rw (g, h, f); answer = refl; table = refl })
 
-      by-sound : (b : Bool) → sound t ≡ b → eqb (length answer) 3 ≡ true → Is (call t answer k ask) n answer t
+      by-sound : (b : Bool) → sound t ≡ b → eqb (length answer) 3 ≡ true → Meets (call t answer k ask) (gives n answer t)
       by-sound true h g = by-core (ltb k (K-of t)) refl g h
       by-sound false h g = rw (g, h) (record { number = sym e ∙ rw (g, h); answer = refl; table = refl })
 
-      by-answer : (b : Bool) → eqb (length answer) 3 ≡ b → Is (call t answer k ask) n answer t
+      by-answer : (b : Bool) → eqb (length answer) 3 ≡ b → Meets (call t answer k ask) (gives n answer t)
       by-answer true g = by-sound (sound t) refl g
       by-answer false g = rw g (record { number = sym e ∙ rw g; answer = refl; table = refl })
 
   -- a call that isn't refused first tells what its rule comes to
-  pub told-call : Allowed t answer k → (r : Reply) (u : List ℕ) → Does (rule-of (wiring (view t)) ask k) t r u
-      → Is (call t answer k ask) (r .number) (words-after r answer) u
+  pub told-call : Allowed t answer k → (r : Reply) (w u : List ℕ) → Does (rule-of (wiring (view t)) ask k) t r u → w ≡ words-after r answer
+      → Meets (call t answer k ask) (gives (r .number) w u)
   unfolding call
-  told-call ok r u does =
+  told-call ok r w u does e =
       let three : eqb (length answer) 3 ≡ true = eq-eqb (length answer) 3 (ok .three) in
       let sure : sound t ≡ true = T-true (sound t) (ok .is-sound) in
       let there : ltb k (length (view t .cores)) ≡ true = lt-ltb k (length (view t .cores)) (subst (λ (n : ℕ). k < n) (K-is t (ok .is-sound)) (ok .inside)) in
-      rw (three, sure, there) (told (run (rule-of (wiring (view t)) ask k) (view t)) t answer u r does)
-
-module _ (t answer : List ℕ) (k : ℕ) {why : ℕ} (found : why ≡ first-refusal t answer k) (none : why ≡ 0) where
-  -- a call that the code hasn't refused
-  pub ok : Allowed t answer k
-  ok = allowed t answer k (sym found ∙ none)
-
-  -- has a sound table with such a core
-  pub card : {cores processes : ℕ} → cores ≡ getD t 0 0 → processes ≡ getD t 1 0 → Card t cores processes k
-  card e f = record { is-sound = ok .is-sound; all-cores = e; all-processes = f; inside = subst (λ (n : ℕ). k < n) (sym e) (ok .inside) }
+      rw (three, sure, there) (told (run (rule-of (wiring (view t)) ask k) (view t)) t answer w u r does e)
 
 -- a sound table has its header
 pub header-there : (t : List ℕ) (f : ℕ) → T (sound t) → f < 8 → f < length t

@@ -1,6 +1,5 @@
 -- What every call but a set-up is refused for before its rule is looked at, as a number; 0 where it isn't.
 use Prim.Native.Nat.{ℕ}
-use mathlib.Core.Bool.{Bool}
 use mathlib.Core.List.{List}
 use lib.Dec.{eqb, ltb}
 use lib.ListN.{length}

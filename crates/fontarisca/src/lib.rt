@@ -3,9 +3,16 @@ ghost use mathlib.Core.Path.{_≡_};
 ghost use Prim.Native.Nat.{_<_};
 ghost use lib.Dec.{T};
 ghost use lib.ListN.{getD};
+ghost use Rattle.rules.specs.State.{wiring};
+ghost use Rattle.rules.specs.Packing.{K-of, view};
 ghost use Rattle.rules.specs.Soundness.{sound};
 ghost use Rattle.rules.specs.Calls.{set-up-call, send-call, receive-call, choose-call, yield-call, end-call, step-call};
+ghost use Rattle.rules.specs.Calls.{rule-of, call};
+ghost use Rattle.rules.specs.Claims.{gives, Meets, builds, MeetsBuilt};
+ghost use Rattle.parts.specs.Does.{Does};
 ghost use Rattle.fontarisca.specs.First.{first-refusal};
+ghost use Rattle.fontarisca.specs.Asks.{asks};
+use answers::Reply;
 
 // What a call is refused for before its rule is looked at: the answer slice isn't 3 long, the table isn't sound, there is no such
 // core; 0 where it isn't. The soundness check stands here and nowhere else.
@@ -32,10 +39,53 @@ fn header_word(table: &[u32], f: usize) -> u32
     table[f]
 }
 
+// What a call asks of its core. The guards of a choice are lent beside it.
+enum Ask {
+    Step,
+    Send(u32, u32),
+    Receive(u32),
+    Choose,
+    Yield,
+    End,
+}
+
+// The rule of what is asked, on a sound table with that core.
+fn perform(table: &mut [u32], core: u32, ask: Ask, guards: &[u32]) -> Reply
+    requires { ⌜ T (sound (now table)) ⌝ ∗ ⌜ core < K-of (now table) ⌝ }
+    ensures { λ r. ⌜ Does (rule-of (wiring (view (now (table .entry)))) (asks ask (now (guards .entry))) core)
+        (now (table .entry)) r (now (table .exit)) ⌝ }
+{
+    let cores = header_word(table, 0) as usize;
+    let processes = header_word(table, 1) as usize;
+    let channels = header_word(table, 2);
+    let k = core as usize;
+    match ask {
+        Ask::Step => stepping::step_core(table, cores, processes, k),
+        Ask::Send(c, v) => requests::send(table, cores, processes, channels, k, c, v),
+        Ask::Receive(c) => requests::receive(table, cores, processes, channels, k, c),
+        Ask::Choose => requests::choose(table, cores, processes, channels, k, guards),
+        Ask::Yield => requests::yield_core(table, cores, processes, k),
+        Ask::End => requests::end_process(table, cores, processes, k),
+    }
+}
+
+// A call: its first refusals, then its rule, whose answer is told.
+fn make_call(table: &mut [u32], answer: &mut [u32], core: u32, ask: Ask, guards: &[u32]) -> u32
+    ensures { λ r. ⌜ Meets (call (now (table .entry)) (now (answer .entry)) core (asks ask (now (guards .entry))))
+        (gives r (now (answer .exit)) (now (table .exit))) ⌝ }
+{
+    let why = refused_first(table, answer, core);
+    if why != 0 {
+        return why;
+    }
+    let r = perform(table, core, ask, guards);
+    answers::tell(answer, r);
+    r.number
+}
+
 #[no_mangle]
 pub extern "C" fn fontarisca_set_up(k: u32, n: u32, m: u32, pairs: &[u32], table: &mut [u32]) -> u32
-    ensures number { λ r. ⌜ r ≡ set-up-call k n m (now (pairs .entry)) (now (table .entry)) .number ⌝ }
-    ensures table { λ r. ⌜ now (table .exit) ≡ set-up-call k n m (now (pairs .entry)) (now (table .entry)) .table ⌝ }
+    ensures { λ r. ⌜ MeetsBuilt (set-up-call k n m (now (pairs .entry)) (now (table .entry))) (builds r (now (table .exit))) ⌝ }
 {
     set_up::build(k, n, m, pairs, table)
 }
@@ -48,28 +98,9 @@ pub extern "C" fn fontarisca_send(
     channel: u32,
     value: u32,
 ) -> u32
-    ensures number { λ r. ⌜ r ≡ send-call (now (table .entry)) (now (answer .entry)) core channel value .number ⌝ }
-    ensures answer { λ r. ⌜ now (answer .exit) ≡ send-call (now (table .entry)) (now (answer .entry)) core channel value .answer ⌝ }
-    ensures table { λ r. ⌜ now (table .exit) ≡ send-call (now (table .entry)) (now (answer .entry)) core channel value .table ⌝ }
+    ensures { λ r. ⌜ Meets (send-call (now (table .entry)) (now (answer .entry)) core channel value) (gives r (now (answer .exit)) (now (table .exit))) ⌝ }
 {
-    let why = refused_first(table, answer, core);
-    if why != 0 {
-        return why;
-    }
-    let cores = header_word(table, 0);
-    let processes = header_word(table, 1);
-    let channels = header_word(table, 2);
-    let r = requests::send(
-        table,
-        cores as usize,
-        processes as usize,
-        channels,
-        core as usize,
-        channel,
-        value,
-    );
-    answers::tell(answer, r);
-    r.number
+    make_call(table, answer, core, Ask::Send(channel, value), &[])
 }
 
 #[no_mangle]
@@ -79,27 +110,9 @@ pub extern "C" fn fontarisca_receive(
     core: u32,
     channel: u32,
 ) -> u32
-    ensures number { λ r. ⌜ r ≡ receive-call (now (table .entry)) (now (answer .entry)) core channel .number ⌝ }
-    ensures answer { λ r. ⌜ now (answer .exit) ≡ receive-call (now (table .entry)) (now (answer .entry)) core channel .answer ⌝ }
-    ensures table { λ r. ⌜ now (table .exit) ≡ receive-call (now (table .entry)) (now (answer .entry)) core channel .table ⌝ }
+    ensures { λ r. ⌜ Meets (receive-call (now (table .entry)) (now (answer .entry)) core channel) (gives r (now (answer .exit)) (now (table .exit))) ⌝ }
 {
-    let why = refused_first(table, answer, core);
-    if why != 0 {
-        return why;
-    }
-    let cores = header_word(table, 0);
-    let processes = header_word(table, 1);
-    let channels = header_word(table, 2);
-    let r = requests::receive(
-        table,
-        cores as usize,
-        processes as usize,
-        channels,
-        core as usize,
-        channel,
-    );
-    answers::tell(answer, r);
-    r.number
+    make_call(table, answer, core, Ask::Receive(channel), &[])
 }
 
 #[no_mangle]
@@ -109,76 +122,28 @@ pub extern "C" fn fontarisca_choose(
     core: u32,
     guards: &[u32],
 ) -> u32
-    ensures number { λ r. ⌜ r ≡ choose-call (now (table .entry)) (now (answer .entry)) core (now (guards .entry)) .number ⌝ }
-    ensures answer { λ r. ⌜ now (answer .exit) ≡ choose-call (now (table .entry)) (now (answer .entry)) core (now (guards .entry)) .answer ⌝ }
-    ensures table { λ r. ⌜ now (table .exit) ≡ choose-call (now (table .entry)) (now (answer .entry)) core (now (guards .entry)) .table ⌝ }
+    ensures { λ r. ⌜ Meets (choose-call (now (table .entry)) (now (answer .entry)) core (now (guards .entry))) (gives r (now (answer .exit)) (now (table .exit))) ⌝ }
 {
-    let why = refused_first(table, answer, core);
-    if why != 0 {
-        return why;
-    }
-    let cores = header_word(table, 0);
-    let processes = header_word(table, 1);
-    let channels = header_word(table, 2);
-    let r = requests::choose(
-        table,
-        cores as usize,
-        processes as usize,
-        channels,
-        core as usize,
-        guards,
-    );
-    answers::tell(answer, r);
-    r.number
+    make_call(table, answer, core, Ask::Choose, guards)
 }
 
 #[no_mangle]
 pub extern "C" fn fontarisca_yield(table: &mut [u32], answer: &mut [u32], core: u32) -> u32
-    ensures number { λ r. ⌜ r ≡ yield-call (now (table .entry)) (now (answer .entry)) core .number ⌝ }
-    ensures answer { λ r. ⌜ now (answer .exit) ≡ yield-call (now (table .entry)) (now (answer .entry)) core .answer ⌝ }
-    ensures table { λ r. ⌜ now (table .exit) ≡ yield-call (now (table .entry)) (now (answer .entry)) core .table ⌝ }
+    ensures { λ r. ⌜ Meets (yield-call (now (table .entry)) (now (answer .entry)) core) (gives r (now (answer .exit)) (now (table .exit))) ⌝ }
 {
-    let why = refused_first(table, answer, core);
-    if why != 0 {
-        return why;
-    }
-    let cores = header_word(table, 0);
-    let processes = header_word(table, 1);
-    let r = requests::yield_core(table, cores as usize, processes as usize, core as usize);
-    answers::tell(answer, r);
-    r.number
+    make_call(table, answer, core, Ask::Yield, &[])
 }
 
 #[no_mangle]
 pub extern "C" fn fontarisca_end(table: &mut [u32], answer: &mut [u32], core: u32) -> u32
-    ensures number { λ r. ⌜ r ≡ end-call (now (table .entry)) (now (answer .entry)) core .number ⌝ }
-    ensures answer { λ r. ⌜ now (answer .exit) ≡ end-call (now (table .entry)) (now (answer .entry)) core .answer ⌝ }
-    ensures table { λ r. ⌜ now (table .exit) ≡ end-call (now (table .entry)) (now (answer .entry)) core .table ⌝ }
+    ensures { λ r. ⌜ Meets (end-call (now (table .entry)) (now (answer .entry)) core) (gives r (now (answer .exit)) (now (table .exit))) ⌝ }
 {
-    let why = refused_first(table, answer, core);
-    if why != 0 {
-        return why;
-    }
-    let cores = header_word(table, 0);
-    let processes = header_word(table, 1);
-    let r = requests::end_process(table, cores as usize, processes as usize, core as usize);
-    answers::tell(answer, r);
-    r.number
+    make_call(table, answer, core, Ask::End, &[])
 }
 
 #[no_mangle]
 pub extern "C" fn fontarisca_step(table: &mut [u32], answer: &mut [u32], core: u32) -> u32
-    ensures number { λ r. ⌜ r ≡ step-call (now (table .entry)) (now (answer .entry)) core .number ⌝ }
-    ensures answer { λ r. ⌜ now (answer .exit) ≡ step-call (now (table .entry)) (now (answer .entry)) core .answer ⌝ }
-    ensures table { λ r. ⌜ now (table .exit) ≡ step-call (now (table .entry)) (now (answer .entry)) core .table ⌝ }
+    ensures { λ r. ⌜ Meets (step-call (now (table .entry)) (now (answer .entry)) core) (gives r (now (answer .exit)) (now (table .exit))) ⌝ }
 {
-    let why = refused_first(table, answer, core);
-    if why != 0 {
-        return why;
-    }
-    let cores = header_word(table, 0);
-    let processes = header_word(table, 1);
-    let r = stepping::step_core(table, cores as usize, processes as usize, core as usize);
-    answers::tell(answer, r);
-    r.number
+    make_call(table, answer, core, Ask::Step, &[])
 }

@@ -62,15 +62,23 @@ pub record StaysSound : Type 0 where
 
 -- Strength of the promises
 
--- A result meets an export's promise where number, answer words and table are those of the call's definition.
+-- What came back from an export: its number, and the answer slice and the table as it left them; from set-up.
+abbrev pub gives : ℕ → List ℕ → List ℕ → Result
+gives n answer t = record { number = n; answer = answer; table = t }
+
+abbrev pub builds : ℕ → List ℕ → Built
+builds n t = record { number = n; table = t }
+
+-- A result meets an export's promise where number, answer words and table are those of the call's definition. The contract of each
+-- export says that what it gives, or builds, meets its call.
 pub record Meets (promised r : Result) : Type 0 where
   pub number : r .number ≡ promised .number
   pub answer : r .answer ≡ promised .answer
   pub table : r .table ≡ promised .table
 
-pub record MeetsBuilt (promised r : Built) : Type 0 where
-  pub number : r .number ≡ promised .number
-  pub table : r .table ≡ promised .table
+pub record MeetsBuilt (promised b : Built) : Type 0 where
+  pub number : b .number ≡ promised .number
+  pub table : b .table ≡ promised .table
 
 -- `same-result`: "two results which meet a promise are equal"
 pub record SameResult : Type 0 where
