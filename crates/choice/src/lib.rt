@@ -237,9 +237,6 @@ pub fn lower_count(t: &mut [u32], cores: usize, processes: usize, k: usize, p: u
     next_guard(t, cores, p, 17, 19)
 }
 
-// A choice with no ready guard is refused.
-const NONE_READY: u32 = answers::FAULT;
-
 // Finish: no ready guard is a fault; count - 1; at 0 CHOSE with the first ready guard; above 0 asleep, with CHOSE due.
 pub fn finish_choice(t: &mut [u32], cores: usize, processes: usize, k: usize, p: u32) -> Reply
     requires { ⌜ At (now t) cores processes k p (finish (guards-at (now t) cores p) (ready-at (now t) cores p)) ⌝ }
@@ -247,10 +244,10 @@ pub fn finish_choice(t: &mut [u32], cores: usize, processes: usize, k: usize, p:
         (now (t .entry)) r (now (t .exit)) ⌝ }
 {
     let ready = table::process_word(t, cores, p, 11);
-    if ready == 0 {
-        return answers::refused(NONE_READY);
-    }
     let count = table::process_word(t, cores, p, 5);
+    if ready == 0 {
+        return answers::refused(answers::FAULT);
+    }
     if count == 0 {
         return answers::refused(answers::FAULT);
     }

@@ -26,6 +26,14 @@ fn who_is_at(t: &[u32], cores: usize, processes: usize, c: u32) -> Holder
     words::who_stands(word)
 }
 
+// The word of channel c becomes v.
+fn set_word(t: &mut [u32], cores: usize, processes: usize, c: u32, v: u32)
+    requires { ⌜ HasChannel (now t) cores processes c ⌝ }
+    ensures { λ r. ⌜ now (t .exit) ≡ set (now (t .entry)) (channel-at cores processes c 2) v ⌝ }
+{
+    table::set_channel_word(t, cores, processes, c, 2, v);
+}
+
 // The request goes on at another stage.
 fn goes_on(t: &mut [u32], cores: usize, p: u32, way: Way, n: u32) -> Reply
     requires { ⌜ HasProcess (now t) cores p ⌝ ∗ ⌜ n < 100 ⌝ }
@@ -88,6 +96,15 @@ fn sleeps(t: &mut [u32], cores: usize, k: usize, p: u32, way: Way, task: u32, q:
     parts::falls_asleep(t, cores, k, p, task, q)
 }
 
+// The look was stale: process q is the partner after all, next copy.
+fn finds_late(t: &mut [u32], cores: usize, p: u32, way: Way, q: u32) -> Reply
+    requires { ⌜ HasProcess (now t) cores p ⌝ }
+    ensures { λ r. ⌜ now (t .exit) ≡ set (set (now (t .entry)) (process-at cores p 8) q) (process-at cores p 6) (of-way (which way) 3) ⌝
+        ∗ ⌜ r ≡ four (yes-with MOVED) ⌝ }
+{
+    finds(t, cores, p, way, q)
+}
+
 // Park: swap one's plain name into the word. What stood there decides: nobody, or one who is choosing, who is to be triggered: one
 // falls asleep. A process: the look was stale, next copy.
 pub fn park_at(
@@ -104,11 +121,11 @@ pub fn park_at(
 {
     let found = who_is_at(t, cores, processes, c);
     let name = words::plain_name(p);
-    table::set_channel_word(t, cores, processes, c, 2, name);
+    set_word(t, cores, processes, c, name);
     match found {
         Holder::Nobody => sleeps(t, cores, k, p, way, 0, 0),
         Holder::Choosing(q) => sleeps(t, cores, k, p, way, 1, q),
-        Holder::Plain(q) => finds(t, cores, p, way, q),
+        Holder::Plain(q) => finds_late(t, cores, p, way, q),
     }
 }
 
@@ -164,7 +181,7 @@ pub fn clear_word(
     requires { ⌜ At (now t) cores processes k p (clear (which way) c q) ⌝ }
     ensures { λ r. ⌜ Does (clear-step p (which way) c q) (now (t .entry)) r (now (t .exit)) ⌝ }
 {
-    table::set_channel_word(t, cores, processes, c, 2, 0);
+    set_word(t, cores, processes, c, 0);
     goes_on(t, cores, p, way, 5)
 }
 

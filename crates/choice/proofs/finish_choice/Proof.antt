@@ -10,6 +10,11 @@ process-word-requires c κs =
     let h = at-process (c .before .before .pre) in
     omega arith
 
+process-word-requires-2 : tie.Need-process-word-requires-2
+process-word-requires-2 c κs =
+    let h = at-process (c .before .before .before .before .pre) in
+    omega arith
+
 refused-requires : tie.Need-refused-requires
 refused-requires c κs = search needs
 
@@ -17,12 +22,7 @@ same-length : tie.Need-same-length
 same-length c = search needs
 
 returns : tie.Need-returns
-returns c = finish-none (c .before .before .before .before .before .pre) (omega arith) (c .refused .ensures) (cc)
-
-process-word-requires-2 : tie.Need-process-word-requires-2
-process-word-requires-2 c κs =
-    let h = at-process (c .before .before .before .before .before .pre) in
-    omega arith
+returns c = finish-none (c .before .before .before .before .before .before .before .pre) (omega arith) (c .refused .ensures) (cc)
 
 refused-requires-2 : tie.Need-refused-requires-2
 refused-requires-2 c κs = search needs
@@ -86,10 +86,10 @@ returns-4 c =
     let slept = c .before .before in
     let counted = slept .before .before .before .before .before .before .before .before .before in
     let found = counted .before .before in
-    let read = found .before .before .before in
-    let ready = read .before .before .before in
+    let read = found .before .before .before .before in
+    let ready = read .before .before in
     finish-later (ready .before .before .before .pre) (ready .process-word .ensures) (read .process-word2 .ensures)
-    (read .before .before .if1 .left) (found .before .before .if2 .left) (slept .before .before .before .before .before .before .if3 .left)
+    (found .before .before .before .if1 .left) (found .before .before .if2 .left) (slept .before .before .before .before .before .before .if3 .left)
     (found .guard .ensures) (counted .set-process-word .ensures)
     (slept .before .before .before .before .set-due .ensures) (slept .falls-asleep .ensures .1) (slept .falls-asleep .ensures .0)
 
@@ -98,10 +98,10 @@ finish-choice-spec =
     tie.close
     (tie.spec
     process-word-requires
+    process-word-requires-2
     refused-requires
     same-length
     returns
-    process-word-requires-2
     refused-requires-2
     same-length-2
     returns-2

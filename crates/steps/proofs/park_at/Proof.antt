@@ -15,8 +15,8 @@ who-is-at-requires c κs = at-park (c .before .before .pre) .channel
 plain-name-requires : tie.Need-plain-name-requires
 plain-name-requires c κs = name-fits (c .before .before .before .pre)
 
-set-channel-word-requires : tie.Need-set-channel-word-requires
-set-channel-word-requires c κs = let has = at-park (c .before .before .before .before .before .pre) .channel in (has .from-one, has .word-2)
+set-word-requires : tie.Need-set-word-requires
+set-word-requires c κs = at-park (c .before .before .before .before .before .pre) .channel
 
 enum-told : tie.Need-enum-told
 enum-told c = search needs
@@ -37,8 +37,8 @@ sleeps-requires-2 c κs =
 enum-known-found-2 : tie.Need-enum-known-found-2
 enum-known-found-2 c = search needs
 
-finds-requires : tie.Need-finds-requires
-finds-requires c κs =
+finds-late-requires : tie.Need-finds-late-requires
+finds-late-requires c κs =
     let near = at-park (c .before .before .before .before .before .before .before .before .before .before .before .before .pre) in
     omega arith
 
@@ -53,7 +53,7 @@ returns c =
     let found = name .before in
     let at = found .before .before .before .pre in
     let there = found-near (at-park at) (went .before .before .enum-told .given .1) (found .who-is-at .ensures) in
-    let named = park-names at (name .plain-name .ensures) (written .set-channel-word .ensures) in
+    let named = park-names at (name .plain-name .ensures) (written .set-word .ensures) in
     park-sleeps at named no-task there refl refl (went .sleeps .ensures .1) (went .sleeps .ensures .0)
 
 same-length-2 : tie.Need-same-length-2
@@ -67,7 +67,7 @@ returns-2 c =
     let found = name .before in
     let at = found .before .before .before .pre in
     let there = found-near (at-park at) (went .before .before .before .found .given .1) (found .who-is-at .ensures) in
-    let named = park-names at (name .plain-name .ensures) (written .set-channel-word .ensures) in
+    let named = park-names at (name .plain-name .ensures) (written .set-word .ensures) in
     park-sleeps at named (trigger _) there refl refl (went .sleeps2 .ensures .1) (went .sleeps2 .ensures .0)
 
 same-length-3 : tie.Need-same-length-3
@@ -81,8 +81,8 @@ returns-3 c =
     let found = name .before in
     let at = found .before .before .before .pre in
     let there = found-near (at-park at) (went .before .before .before .found2 .given .1) (found .who-is-at .ensures) in
-    let named = park-names at (name .plain-name .ensures) (written .set-channel-word .ensures) in
-    park-copies at named there (went .finds .ensures .1) (went .finds .ensures .0)
+    let named = park-names at (name .plain-name .ensures) (written .set-word .ensures) in
+    park-copies at named there (went .finds-late .ensures .1) (went .finds-late .ensures .0)
 
 pub park-at-spec : {M : Type 1} → statement M
 park-at-spec =
@@ -90,13 +90,13 @@ park-at-spec =
     (tie.spec
     who-is-at-requires
     plain-name-requires
-    set-channel-word-requires
+    set-word-requires
     enum-told
     sleeps-requires
     enum-known-found
     sleeps-requires-2
     enum-known-found-2
-    finds-requires
+    finds-late-requires
     same-length
     returns
     same-length-2
