@@ -6,8 +6,7 @@ ghost use lib.ListN.{getD};
 ghost use Rattle.rules.specs.State.{wiring};
 ghost use Rattle.rules.specs.Packing.{K-of, view};
 ghost use Rattle.rules.specs.Soundness.{sound};
-ghost use Rattle.rules.specs.Calls.{set-up-call, send-call, receive-call, choose-call, yield-call, end-call, step-call};
-ghost use Rattle.rules.specs.Calls.{rule-of, call};
+ghost use Rattle.rules.specs.Calls.{rule-of, call, set-up-call, send-call, receive-call, choose-call, yield-call, end-call, step-call};
 ghost use Rattle.rules.specs.Claims.{gives, Meets, builds, MeetsBuilt};
 ghost use Rattle.parts.specs.Does.{Does};
 ghost use Rattle.fontarisca.specs.First.{first-refusal};
@@ -83,6 +82,7 @@ fn make_call(table: &mut [u32], answer: &mut [u32], core: u32, ask: Ask, guards:
     r.number
 }
 
+// Builds a table of k cores, n processes and m channels with these (writer, reader) pairs, whatever it held.
 #[no_mangle]
 pub extern "C" fn fontarisca_set_up(k: u32, n: u32, m: u32, pairs: &[u32], table: &mut [u32]) -> u32
     ensures { λ r. ⌜ MeetsBuilt (set-up-call k n m (now (pairs .entry)) (now (table .entry))) (builds r (now (table .exit))) ⌝ }
@@ -90,6 +90,7 @@ pub extern "C" fn fontarisca_set_up(k: u32, n: u32, m: u32, pairs: &[u32], table
     set_up::build(k, n, m, pairs, table)
 }
 
+// The running process of the core sends the value on the channel, of which it is the writer.
 #[no_mangle]
 pub extern "C" fn fontarisca_send(
     table: &mut [u32],
@@ -103,6 +104,7 @@ pub extern "C" fn fontarisca_send(
     make_call(table, answer, core, Ask::Send(channel, value), &[])
 }
 
+// It receives on the channel, of which it is the reader.
 #[no_mangle]
 pub extern "C" fn fontarisca_receive(
     table: &mut [u32],
@@ -115,6 +117,7 @@ pub extern "C" fn fontarisca_receive(
     make_call(table, answer, core, Ask::Receive(channel), &[])
 }
 
+// It chooses over these channels, of which it is the reader.
 #[no_mangle]
 pub extern "C" fn fontarisca_choose(
     table: &mut [u32],
@@ -127,6 +130,7 @@ pub extern "C" fn fontarisca_choose(
     make_call(table, answer, core, Ask::Choose, guards)
 }
 
+// It goes to the end of the active queue.
 #[no_mangle]
 pub extern "C" fn fontarisca_yield(table: &mut [u32], answer: &mut [u32], core: u32) -> u32
     ensures { λ r. ⌜ Meets (yield-call (now (table .entry)) (now (answer .entry)) core) (gives r (now (answer .exit)) (now (table .exit))) ⌝ }
@@ -134,6 +138,7 @@ pub extern "C" fn fontarisca_yield(table: &mut [u32], answer: &mut [u32], core: 
     make_call(table, answer, core, Ask::Yield, &[])
 }
 
+// It ends.
 #[no_mangle]
 pub extern "C" fn fontarisca_end(table: &mut [u32], answer: &mut [u32], core: u32) -> u32
     ensures { λ r. ⌜ Meets (end-call (now (table .entry)) (now (answer .entry)) core) (gives r (now (answer .exit)) (now (table .exit))) ⌝ }
@@ -141,6 +146,7 @@ pub extern "C" fn fontarisca_end(table: &mut [u32], answer: &mut [u32], core: u3
     make_call(table, answer, core, Ask::End, &[])
 }
 
+// The next atomic step of the core.
 #[no_mangle]
 pub extern "C" fn fontarisca_step(table: &mut [u32], answer: &mut [u32], core: u32) -> u32
     ensures { λ r. ⌜ Meets (step-call (now (table .entry)) (now (answer .entry)) core) (gives r (now (answer .exit)) (now (table .exit))) ⌝ }
