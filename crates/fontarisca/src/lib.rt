@@ -6,6 +6,7 @@ ghost use lib.ListN.{getD};
 ghost use Rattle.rules.specs.State.{wiring};
 ghost use Rattle.rules.specs.Packing.{K-of, view};
 ghost use Rattle.rules.specs.Soundness.{sound};
+ghost use Rattle.rules.specs.Requests.{request, choose};
 ghost use Rattle.rules.specs.Calls.{rule-of, call, set-up-call, send-call, receive-call, choose-call, yield-call, end-call, step-call};
 ghost use Rattle.rules.specs.Claims.{gives, Meets, builds, MeetsBuilt};
 ghost use Rattle.parts.specs.Does.{Does};
@@ -38,20 +39,19 @@ fn header_word(table: &[u32], f: usize) -> u32
     table[f]
 }
 
-// What a call asks of its core. The guards of a choice are lent beside it.
+// What a call asks of its core, but for a choice, whose guards no enum can hold.
 enum Ask {
     Step,
     Send(u32, u32),
     Receive(u32),
-    Choose,
     Yield,
     End,
 }
 
 // The rule of what is asked, on a sound table with that core.
-fn perform(table: &mut [u32], core: u32, ask: Ask, guards: &[u32]) -> Reply
+fn perform(table: &mut [u32], core: u32, ask: Ask) -> Reply
     requires { ⌜ T (sound (now table)) ⌝ ∗ ⌜ core < K-of (now table) ⌝ }
-    ensures { λ r. ⌜ Does (rule-of (wiring (view (now (table .entry)))) (asks ask (now (guards .entry))) core)
+    ensures { λ r. ⌜ Does (rule-of (wiring (view (now (table .entry)))) (asks ask) core)
         (now (table .entry)) r (now (table .exit)) ⌝ }
 {
     let cores = header_word(table, 0) as usize;
@@ -62,24 +62,34 @@ fn perform(table: &mut [u32], core: u32, ask: Ask, guards: &[u32]) -> Reply
         Ask::Step => stepping::step_core(table, cores, processes, k),
         Ask::Send(c, v) => requests::send(table, cores, processes, channels, k, c, v),
         Ask::Receive(c) => requests::receive(table, cores, processes, channels, k, c),
-        Ask::Choose => requests::choose(table, cores, processes, channels, k, guards),
         Ask::Yield => requests::yield_core(table, cores, processes, k),
         Ask::End => requests::end_process(table, cores, processes, k),
     }
 }
 
 // A call: its first refusals, then its rule, whose answer is told.
-fn make_call(table: &mut [u32], answer: &mut [u32], core: u32, ask: Ask, guards: &[u32]) -> u32
-    ensures { λ r. ⌜ Meets (call (now (table .entry)) (now (answer .entry)) core (asks ask (now (guards .entry))))
-        (gives r (now (answer .exit)) (now (table .exit))) ⌝ }
+fn make_call(table: &mut [u32], answer: &mut [u32], core: u32, ask: Ask) -> u32
+    ensures { λ r. ⌜ Meets (call (now (table .entry)) (now (answer .entry)) core (asks ask)) (gives r (now (answer .exit)) (now (table .exit))) ⌝ }
 {
     let why = refused_first(table, answer, core);
     if why != 0 {
         return why;
     }
-    let r = perform(table, core, ask, guards);
+    let r = perform(table, core, ask);
     answers::tell(answer, r);
     r.number
+}
+
+// The rule of a choice, on a sound table with that core.
+fn perform_choice(table: &mut [u32], core: u32, guards: &[u32]) -> Reply
+    requires { ⌜ T (sound (now table)) ⌝ ∗ ⌜ core < K-of (now table) ⌝ }
+    ensures { λ r. ⌜ Does (request (wiring (view (now (table .entry)))) (choose (now (guards .entry))) core)
+        (now (table .entry)) r (now (table .exit)) ⌝ }
+{
+    let cores = header_word(table, 0) as usize;
+    let processes = header_word(table, 1) as usize;
+    let channels = header_word(table, 2);
+    requests::choose(table, cores, processes, channels, core as usize, guards)
 }
 
 // Builds a table of k cores, n processes and m channels with these (writer, reader) pairs, whatever it held.
@@ -101,7 +111,7 @@ pub extern "C" fn fontarisca_send(
 ) -> u32
     ensures { λ r. ⌜ Meets (send-call (now (table .entry)) (now (answer .entry)) core channel value) (gives r (now (answer .exit)) (now (table .exit))) ⌝ }
 {
-    make_call(table, answer, core, Ask::Send(channel, value), &[])
+    make_call(table, answer, core, Ask::Send(channel, value))
 }
 
 // It receives on the channel, of which it is the reader.
@@ -114,7 +124,7 @@ pub extern "C" fn fontarisca_receive(
 ) -> u32
     ensures { λ r. ⌜ Meets (receive-call (now (table .entry)) (now (answer .entry)) core channel) (gives r (now (answer .exit)) (now (table .exit))) ⌝ }
 {
-    make_call(table, answer, core, Ask::Receive(channel), &[])
+    make_call(table, answer, core, Ask::Receive(channel))
 }
 
 // It chooses over these channels, of which it is the reader.
@@ -127,7 +137,13 @@ pub extern "C" fn fontarisca_choose(
 ) -> u32
     ensures { λ r. ⌜ Meets (choose-call (now (table .entry)) (now (answer .entry)) core (now (guards .entry))) (gives r (now (answer .exit)) (now (table .exit))) ⌝ }
 {
-    make_call(table, answer, core, Ask::Choose, guards)
+    let why = refused_first(table, answer, core);
+    if why != 0 {
+        return why;
+    }
+    let r = perform_choice(table, core, guards);
+    answers::tell(answer, r);
+    r.number
 }
 
 // It goes to the end of the active queue.
@@ -135,7 +151,7 @@ pub extern "C" fn fontarisca_choose(
 pub extern "C" fn fontarisca_yield(table: &mut [u32], answer: &mut [u32], core: u32) -> u32
     ensures { λ r. ⌜ Meets (yield-call (now (table .entry)) (now (answer .entry)) core) (gives r (now (answer .exit)) (now (table .exit))) ⌝ }
 {
-    make_call(table, answer, core, Ask::Yield, &[])
+    make_call(table, answer, core, Ask::Yield)
 }
 
 // It ends.
@@ -143,7 +159,7 @@ pub extern "C" fn fontarisca_yield(table: &mut [u32], answer: &mut [u32], core: 
 pub extern "C" fn fontarisca_end(table: &mut [u32], answer: &mut [u32], core: u32) -> u32
     ensures { λ r. ⌜ Meets (end-call (now (table .entry)) (now (answer .entry)) core) (gives r (now (answer .exit)) (now (table .exit))) ⌝ }
 {
-    make_call(table, answer, core, Ask::End, &[])
+    make_call(table, answer, core, Ask::End)
 }
 
 // The next atomic step of the core.
@@ -151,5 +167,5 @@ pub extern "C" fn fontarisca_end(table: &mut [u32], answer: &mut [u32], core: u3
 pub extern "C" fn fontarisca_step(table: &mut [u32], answer: &mut [u32], core: u32) -> u32
     ensures { λ r. ⌜ Meets (step-call (now (table .entry)) (now (answer .entry)) core) (gives r (now (answer .exit)) (now (table .exit))) ⌝ }
 {
-    make_call(table, answer, core, Ask::Step, &[])
+    make_call(table, answer, core, Ask::Step)
 }

@@ -17,18 +17,18 @@ same-length-2 c = search needs
 
 returns : tie.Need-returns
 returns c =
-    let asked = c .before .before .before .before .before .before .before .args in
-    refused-first (asked .table .now) (asked .answer .now) (asked .core) (asks (asked .ask) (asked .guards .now)) _ (sym (c .before .refused-first .ensures)) (c .if1 .taken)
+    let asked = c .before .before .before .before .before .before .args in
+    refused-first (asked .table .now) (asked .answer .now) (asked .core) (asks (asked .ask)) _ (sym (c .before .refused-first .ensures)) (c .if1 .taken)
 
 perform-requires : tie.Need-perform-requires
 perform-requires c κs =
-    let asked = c .before .before .before .before .before .before .before .before .args in
+    let asked = c .before .before .before .before .before .before .before .args in
     let fine = allowed (asked .table .now) (asked .answer .now) (asked .core) (sym (c .before .before .refused-first .ensures) ∙ c .before .if1 .left) in
     (fine .is-sound, fine .inside)
 
 tell-requires : tie.Need-tell-requires
 tell-requires c κs =
-    let asked = c .before .before .before .before .before .before .before .before .before .before .before .before .args in
+    let asked = c .before .before .before .before .before .before .before .before .before .before .before .args in
     allowed (asked .table .now) (asked .answer .now) (asked .core) (sym (c .before .before .before .before .before .before .refused-first .ensures) ∙ c .before .before .before .before .before .if1 .left) .three
 
 same-length-3 : tie.Need-same-length-3
@@ -39,8 +39,8 @@ same-length-4 c = search needs
 
 returns-2 : tie.Need-returns-2
 returns-2 c =
-    let asked = c .before .before .before .before .before .before .before .before .before .before .before .before .before .before .before .args in
-    told-call (asked .table .now) (asked .answer .now) (asked .core) (asks (asked .ask) (asked .guards .now))
+    let asked = c .before .before .before .before .before .before .before .before .before .before .before .before .before .before .args in
+    told-call (asked .table .now) (asked .answer .now) (asked .core) (asks (asked .ask))
     (allowed (asked .table .now) (asked .answer .now) (asked .core) (sym (c .before .before .before .before .before .before .before .before .before .refused-first .ensures) ∙ c .before .before .before .before .before .before .before .before .if1 .left)) _ _ _
     (c .before .before .before .before .before .before .perform .ensures) (c .before .before .tell .ensures)
 

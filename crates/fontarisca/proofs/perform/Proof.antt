@@ -39,17 +39,11 @@ receive-requires c κs = (search needs, c .before .before .before .before .heade
 enum-told-2 : tie.Need-enum-told-2
 enum-told-2 c = search needs
 
-choose-requires : tie.Need-choose-requires
-choose-requires c κs = (search needs, c .before .before .before .header-word3 .ensures)
-
-enum-told-3 : tie.Need-enum-told-3
-enum-told-3 c = search needs
-
 yield-core-requires : tie.Need-yield-core-requires
 yield-core-requires c κs = search needs
 
-enum-told-4 : tie.Need-enum-told-4
-enum-told-4 c = search needs
+enum-told-3 : tie.Need-enum-told-3
+enum-told-3 c = search needs
 
 end-process-requires : tie.Need-end-process-requires
 end-process-requires c κs = search needs
@@ -76,19 +70,13 @@ same-length-4 : tie.Need-same-length-4
 same-length-4 c = search needs
 
 returns-4 : tie.Need-returns-4
-returns-4 c = let went = c .before .before in rw (went .before .before .enum-told2 .given .1) (went .choose .ensures)
+returns-4 c = let went = c .before .before in rw (went .before .before .enum-told2 .given .1) (went .yield-core .ensures)
 
 same-length-5 : tie.Need-same-length-5
 same-length-5 c = search needs
 
 returns-5 : tie.Need-returns-5
-returns-5 c = let went = c .before .before in rw (went .before .before .enum-told3 .given .1) (went .yield-core .ensures)
-
-same-length-6 : tie.Need-same-length-6
-same-length-6 c = search needs
-
-returns-6 : tie.Need-returns-6
-returns-6 c = let went = c .before .before in rw (went .before .before .enum-told4 .given .1) (went .end-process .ensures)
+returns-5 c = let went = c .before .before in rw (went .before .before .enum-told3 .given .1) (went .end-process .ensures)
 
 pub perform-spec : {M : Type 1} → statement M
 perform-spec =
@@ -106,10 +94,8 @@ perform-spec =
     enum-known-ask-2
     receive-requires
     enum-told-2
-    choose-requires
-    enum-told-3
     yield-core-requires
-    enum-told-4
+    enum-told-3
     end-process-requires
     same-length
     returns
@@ -120,6 +106,4 @@ perform-spec =
     same-length-4
     returns-4
     same-length-5
-    returns-5
-    same-length-6
-    returns-6)
+    returns-5)

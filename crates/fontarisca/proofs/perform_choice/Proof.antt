@@ -1,0 +1,41 @@
+-- The header gives the sizes that the choice asks for.
+use borrow.Author.Needs.{needs}
+use Rattle.fontarisca.proofs.perform_choice.Statement.{statement}
+use Rattle.fontarisca.proofs.perform_choice.Tie as tie
+
+header-word-requires : tie.Need-header-word-requires
+header-word-requires c κs = search needs
+
+cast-cores : tie.Need-cast-cores
+cast-cores c = search needs
+
+header-word-requires-2 : tie.Need-header-word-requires-2
+header-word-requires-2 c κs = search needs
+
+cast-processes : tie.Need-cast-processes
+cast-processes c = search needs
+
+header-word-requires-3 : tie.Need-header-word-requires-3
+header-word-requires-3 c κs = search needs
+
+choose-requires : tie.Need-choose-requires
+choose-requires c κs = (search needs, c .before .header-word3 .ensures)
+
+same-length : tie.Need-same-length
+same-length c = search needs
+
+returns : tie.Need-returns
+returns c = search needs
+
+pub perform-choice-spec : {M : Type 1} → statement M
+perform-choice-spec =
+    tie.close
+    (tie.spec
+    header-word-requires
+    cast-cores
+    header-word-requires-2
+    cast-processes
+    header-word-requires-3
+    choose-requires
+    same-length
+    returns)
