@@ -1,5 +1,8 @@
 pub mod Tests
 pub mod Runs
+pub mod Zeros
+pub mod ByNumber
+pub mod Fails
 pub mod Sizes
 pub mod Unmet
 pub mod Walks

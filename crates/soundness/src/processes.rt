@@ -4,6 +4,7 @@ ghost use Prim.Native.Nat.{_<_, _≤_};
 ghost use lib.ListN.{length};
 ghost use Rattle.rules.specs.SetUp.{room};
 ghost use Rattle.rules.specs.Packing.{process-at};
+ghost use Rattle.soundness.specs.Parts.{flags-fit};
 ghost use Rattle.fitting.specs.Twin.{place-fits, meeting-fits, process-fits, processes-fit};
 use crate::progress;
 use crate::read;
@@ -37,6 +38,17 @@ fn meeting_fits(t: &[u32], cores: usize, p: usize, place: usize, m: u32) -> bool
     }
 }
 
+// Flags 0 or 1, count 0 to 9.
+fn flags_fit(t: &[u32], cores: usize, p: usize) -> bool
+    requires { ⌜ (1 ≤ p) × (process-at cores p 23 < length (now t)) ⌝ }
+    ensures { λ r. ⌜ r ≡ flags-fit (now (t .entry)) cores p ⌝ }
+{
+    (read::process_word(t, cores, p, 2) <= 1)
+        & (read::process_word(t, cores, p, 3) <= 1)
+        & (read::process_word(t, cores, p, 4) <= 1)
+        & (read::process_word(t, cores, p, 5) <= 9)
+}
+
 fn process_fits(
     t: &[u32],
     cores: usize,
@@ -49,13 +61,16 @@ fn process_fits(
     ensures { λ r. ⌜ r ≡ process-fits (now (t .entry)) cores processes channels (now (met .entry)) p ⌝ }
 {
     let place = read::process_word(t, cores, p, 0);
-    (read::process_word(t, cores, p, 2) <= 1)
-        & (read::process_word(t, cores, p, 3) <= 1)
-        & (read::process_word(t, cores, p, 4) <= 1)
-        & (read::process_word(t, cores, p, 5) <= 9)
-        & place_fits(place, read::process_word(t, cores, p, 6))
-        & meeting_fits(t, cores, p, place, met[p])
-        & progress::progress_fits(t, cores, processes, channels, p)
+    if !flags_fit(t, cores, p) {
+        return false;
+    }
+    if !place_fits(place, read::process_word(t, cores, p, 6)) {
+        return false;
+    }
+    if !meeting_fits(t, cores, p, place, met[p]) {
+        return false;
+    }
+    progress::progress_fits(t, cores, processes, channels, p)
 }
 
 pub fn processes_fit(

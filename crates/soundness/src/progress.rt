@@ -3,9 +3,10 @@ ghost use mathlib.Core.Path.{_≡_};
 ghost use Prim.Native.Nat.{_+_, _<_, _≤_};
 ghost use lib.ListN.{length};
 ghost use Rattle.rules.specs.SetUp.{room};
-ghost use Rattle.fitting.specs.Twin.{is-sender, is-receiver, has-partner, has-guards, has-index, has-ready};
-ghost use Rattle.fitting.specs.Twin.{end-fits, stands-among, guards-fit, channel-part, guards-part, progress-fits};
-ghost use Rattle.soundness.specs.Parts.{partner-part, index-part, ready-part};
+ghost use Rattle.rules.specs.Packing.{process-at};
+ghost use Rattle.fitting.specs.Twin.{zeros, is-sender, is-receiver, has-partner, has-guards, has-index, has-ready};
+ghost use Rattle.fitting.specs.Twin.{end-fits, stands-among, guards-fit, channel-part, progress-fits};
+ghost use Rattle.soundness.specs.Parts.{partner-part, index-part, ready-part, exchange-fits, guards-stand, choice-fits};
 use crate::read;
 
 fn is_sender(n: usize) -> bool
@@ -125,23 +126,19 @@ fn channel_part(
     }
 }
 
-// g guards from the word `from` on, and zeros up to 8.
-fn guards_part(
+// g guards from the word `from` on, 1 to 8, and zeros behind them.
+fn guards_stand(
     t: &[u32],
     cores: usize,
     processes: usize,
     channels: usize,
     p: usize,
-    n: usize,
     g: usize,
     from: usize,
 ) -> bool
     requires { ⌜ (length (now t) ≡ room cores processes channels) × (from + 8 ≤ length (now t)) ⌝ }
-    ensures { λ r. ⌜ r ≡ guards-part (now (t .entry)) cores processes channels p n g from ⌝ }
+    ensures { λ r. ⌜ r ≡ guards-stand (now (t .entry)) cores processes channels p g from ⌝ }
 {
-    if !has_guards(n) {
-        return (g == 0) & read::zeros(t, from, 8);
-    }
     if !read::within(1, 8, g) {
         return false;
     }
@@ -174,18 +171,73 @@ fn ready_part(n: usize, g: usize, first: usize) -> bool
     if has_ready(n) { first <= g } else { first == 0 }
 }
 
+// No guards, no guard index, no ready guard.
+fn no_guards(t: &[u32], cores: usize, p: usize) -> bool
+    requires { ⌜ (1 ≤ p) × (process-at cores p 23 < length (now t)) ⌝ }
+    ensures { λ r. ⌜ r ≡ zeros (now (t .entry)) (process-at cores p 9) 11 ⌝ }
+{
+    let guards = 8 + 16 * cores + 24 * (p - 1) + 12;
+    (read::process_word(t, cores, p, 9) == 0)
+        & (read::process_word(t, cores, p, 10) == 0)
+        & (read::process_word(t, cores, p, 11) == 0)
+        & read::four_zeros(t, guards)
+        & read::four_zeros(t, guards + 4)
+}
+
+// A progress without guards, of the number n: its channel and partner, and zeros behind them.
+fn exchange_fits(
+    t: &[u32],
+    cores: usize,
+    processes: usize,
+    channels: usize,
+    p: usize,
+    n: usize,
+) -> bool
+    requires { ⌜ (length (now t) ≡ room cores processes channels) × (1 ≤ p) × (p ≤ processes) ⌝ }
+    ensures { λ r. ⌜ r ≡ exchange-fits (now (t .entry)) cores processes channels p n ⌝ }
+{
+    if n > 23 {
+        return false;
+    }
+    let channel = read::process_word(t, cores, p, 7);
+    if !channel_part(t, cores, processes, channels, p, n, channel) {
+        return false;
+    }
+    if !partner_part(processes, n, read::process_word(t, cores, p, 8)) {
+        return false;
+    }
+    no_guards(t, cores, p)
+}
+
+// One with guards: no channel and no partner; its guards, its guard index, its first ready guard.
+fn choice_fits(
+    t: &[u32],
+    cores: usize,
+    processes: usize,
+    channels: usize,
+    p: usize,
+    n: usize,
+) -> bool
+    requires { ⌜ (length (now t) ≡ room cores processes channels) × (1 ≤ p) × (p ≤ processes) ⌝ }
+    ensures { λ r. ⌜ r ≡ choice-fits (now (t .entry)) cores processes channels p n ⌝ }
+{
+    let g = read::process_word(t, cores, p, 9);
+    let guards = 8 + 16 * cores + 24 * (p - 1) + 12;
+    (read::process_word(t, cores, p, 7) == 0)
+        & (read::process_word(t, cores, p, 8) == 0)
+        & guards_stand(t, cores, processes, channels, p, g, guards)
+        & index_part(n, g, read::process_word(t, cores, p, 10))
+        & ready_part(n, g, read::process_word(t, cores, p, 11))
+}
+
 pub fn progress_fits(t: &[u32], cores: usize, processes: usize, channels: usize, p: usize) -> bool
     requires { ⌜ (length (now t) ≡ room cores processes channels) × (1 ≤ p) × (p ≤ processes) ⌝ }
     ensures { λ r. ⌜ r ≡ progress-fits (now (t .entry)) cores processes channels p ⌝ }
 {
     let n = read::process_word(t, cores, p, 6);
-    let channel = read::process_word(t, cores, p, 7);
-    let g = read::process_word(t, cores, p, 9);
-    let guards = 8 + 16 * cores + 24 * (p - 1) + 12;
-    (n <= 23)
-        & channel_part(t, cores, processes, channels, p, n, channel)
-        & partner_part(processes, n, read::process_word(t, cores, p, 8))
-        & guards_part(t, cores, processes, channels, p, n, g, guards)
-        & index_part(n, g, read::process_word(t, cores, p, 10))
-        & ready_part(n, g, read::process_word(t, cores, p, 11))
+    if has_guards(n) {
+        choice_fits(t, cores, processes, channels, p, n)
+    } else {
+        exchange_fits(t, cores, processes, channels, p, n)
+    }
 }

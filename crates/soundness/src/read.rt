@@ -50,20 +50,27 @@ pub fn within(low: usize, high: usize, x: usize) -> bool
     (low <= x) & (x <= high)
 }
 
-// The `count` words from `from` on are 0.
+// The `count` words from `from` on are 0. All are read, so that several can be at a time.
 pub fn zeros(t: &[u32], from: usize, count: usize) -> bool
     requires { ⌜ from + count ≤ length (now t) ⌝ }
     ensures { λ r. ⌜ r ≡ zeros (now (t .entry)) from count ⌝ }
 {
     let end = from + count;
     let mut at = from;
+    let mut all = true;
     while at < end {
-        if t[at] != 0 {
-            return false;
-        }
+        all = all & (t[at] == 0);
         at += 1;
     }
-    true
+    all
+}
+
+// The four words from `at` on are 0.
+pub fn four_zeros(t: &[u32], at: usize) -> bool
+    requires { ⌜ at + 4 ≤ length (now t) ⌝ }
+    ensures { λ r. ⌜ r ≡ zeros (now (t .entry)) at 4 ⌝ }
+{
+    (t[at] == 0) & (t[at + 1] == 0) & (t[at + 2] == 0) & (t[at + 3] == 0)
 }
 
 // The `count` words of process p from its word f on are 0.

@@ -1,4 +1,7 @@
--- The words read are the process's own.
+-- The first part that fails decides.
+use mathlib.Core.Path.{_∙_}
+use Rattle.soundness.proofs.Tests.{refused, accepted}
+use Rattle.soundness.proofs.Fails.{flags-fail, place-fails, meeting-fails, progress-decides}
 use borrow.Author.Needs.{needs}
 use Rattle.soundness.proofs.processes.process_fits.Statement.{statement}
 use Rattle.soundness.proofs.processes.process_fits.Tie as tie
@@ -6,23 +9,25 @@ use Rattle.soundness.proofs.processes.process_fits.Tie as tie
 process-word-requires : tie.Need-process-word-requires
 process-word-requires c κs = search needs
 
+flags-fit-requires : tie.Need-flags-fit-requires
+flags-fit-requires c κs = search needs
+
+returns : tie.Need-returns
+returns c =
+    let asked = c .before .before .before .before .args in
+    flags-fail (asked .t .now) (asked .cores) (asked .processes) (asked .channels) (asked .met .now) (asked .p) (refused _ _ (c .before .flags-fit .ensures) (c .if1 .taken))
+
 process-word-requires-2 : tie.Need-process-word-requires-2
 process-word-requires-2 c κs = search needs
 
-process-word-requires-3 : tie.Need-process-word-requires-3
-process-word-requires-3 c κs = search needs
-
-process-word-requires-4 : tie.Need-process-word-requires-4
-process-word-requires-4 c κs = search needs
-
-process-word-requires-5 : tie.Need-process-word-requires-5
-process-word-requires-5 c κs = search needs
-
-process-word-requires-6 : tie.Need-process-word-requires-6
-process-word-requires-6 c κs = search needs
-
 place-fits-requires : tie.Need-place-fits-requires
 place-fits-requires c κs = search needs
+
+returns-2 : tie.Need-returns-2
+returns-2 c =
+    let asked = c .before .before .before .before .before .before .before .args in
+    place-fails (asked .t .now) (asked .cores) (asked .processes) (asked .channels) (asked .met .now) (asked .p) (c .before .before .before .before .before .process-word .ensures) (c .before .before .process-word2 .ensures)
+    (refused _ _ (c .before .place-fits .ensures) (c .if2 .taken))
 
 mul-meeting-fits : tie.Need-mul-meeting-fits
 mul-meeting-fits c = search needs
@@ -33,36 +38,35 @@ element-copy-out-meeting-fits c = search needs
 meeting-fits-requires : tie.Need-meeting-fits-requires
 meeting-fits-requires c κs = search needs
 
+returns-3 : tie.Need-returns-3
+returns-3 c =
+    let asked = c .before .before .before .before .before .before .before .before .before .before .args in
+    meeting-fails (asked .t .now) (asked .cores) (asked .processes) (asked .channels) (asked .met .now) (asked .p) (c .before .before .before .before .before .before .before .before .process-word .ensures) (refused _ _ (c .before .meeting-fits .ensures) (c .if3 .taken))
+
 progress-fits-requires : tie.Need-progress-fits-requires
 progress-fits-requires c κs = search needs
 
-returns : tie.Need-returns
-returns c =
-    rw (
-      c .progress-fits .ensures,
-      c .before .meeting-fits .ensures,
-      c .before .before .before .place-fits .ensures,
-      c .before .before .before .before .process-word6 .ensures,
-      c .before .before .before .before .before .process-word5 .ensures,
-      c .before .before .before .before .before .before .process-word4 .ensures,
-      c .before .before .before .before .before .before .before .process-word3 .ensures,
-      c .before .before .before .before .before .before .before .before .process-word2 .ensures,
-      c .before .before .before .before .before .before .before .before .before .process-word .ensures,
-    )
+returns-4 : tie.Need-returns-4
+returns-4 c =
+    let asked = c .before .before .before .before .before .before .before .before .before .before .before .args in
+    c .progress-fits .ensures
+    ∙ progress-decides (asked .t .now) (asked .cores) (asked .processes) (asked .channels) (asked .met .now) (asked .p) (c .before .before .before .before .before .before .before .before .before .process-word .ensures) (c .before .before .before .before .before .before .process-word2 .ensures)
+    (accepted _ _ (c .before .before .before .before .before .before .before .before .flags-fit .ensures) (c .before .before .before .before .before .before .before .if1 .left)) (accepted _ _ (c .before .before .before .before .before .place-fits .ensures) (c .before .before .before .before .if2 .left))
+    (accepted _ _ (c .before .before .meeting-fits .ensures) (c .before .if3 .left))
 
 pub process-fits-spec : {M : Type 1} → statement M
 process-fits-spec =
     tie.close
     (tie.spec
     process-word-requires
+    flags-fit-requires
+    returns
     process-word-requires-2
-    process-word-requires-3
-    process-word-requires-4
-    process-word-requires-5
-    process-word-requires-6
     place-fits-requires
+    returns-2
     mul-meeting-fits
     element-copy-out-meeting-fits
     meeting-fits-requires
+    returns-3
     progress-fits-requires
-    returns)
+    returns-4)

@@ -1,94 +1,45 @@
--- Each part is tested on the process's own words.
+-- The number decides.
+use mathlib.Core.Path.{sym, _∙_}
 use borrow.Author.Needs.{needs}
+use Rattle.soundness.proofs.ByNumber.{with-guards, without-guards}
 use Rattle.soundness.proofs.progress.progress_fits.Statement.{statement}
 use Rattle.soundness.proofs.progress.progress_fits.Tie as tie
 
 process-word-requires : tie.Need-process-word-requires
 process-word-requires c κs = search needs
 
-process-word-requires-2 : tie.Need-process-word-requires-2
-process-word-requires-2 c κs = search needs
+has-guards-requires : tie.Need-has-guards-requires
+has-guards-requires c κs = search needs
 
-process-word-requires-3 : tie.Need-process-word-requires-3
-process-word-requires-3 c κs = search needs
+choice-fits-requires : tie.Need-choice-fits-requires
+choice-fits-requires c κs = search needs
 
-mul-guards : tie.Need-mul-guards
-mul-guards c = search needs
-
-add-guards : tie.Need-add-guards
-add-guards c = search needs
-
-sub-guards : tie.Need-sub-guards
-sub-guards c = search needs
-
-mul-guards-2 : tie.Need-mul-guards-2
-mul-guards-2 c = search needs
-
-add-guards-2 : tie.Need-add-guards-2
-add-guards-2 c = search needs
-
-add-guards-3 : tie.Need-add-guards-3
-add-guards-3 c = search needs
-
-channel-part-requires : tie.Need-channel-part-requires
-channel-part-requires c κs = search needs
-
-process-word-requires-4 : tie.Need-process-word-requires-4
-process-word-requires-4 c κs = search needs
-
-partner-part-requires : tie.Need-partner-part-requires
-partner-part-requires c κs = search needs
-
-guards-part-requires : tie.Need-guards-part-requires
-guards-part-requires c κs = search needs
-
-process-word-requires-5 : tie.Need-process-word-requires-5
-process-word-requires-5 c κs = search needs
-
-index-part-requires : tie.Need-index-part-requires
-index-part-requires c κs = search needs
-
-process-word-requires-6 : tie.Need-process-word-requires-6
-process-word-requires-6 c κs = search needs
-
-ready-part-requires : tie.Need-ready-part-requires
-ready-part-requires c κs = search needs
+exchange-fits-requires : tie.Need-exchange-fits-requires
+exchange-fits-requires c κs = search needs
 
 returns : tie.Need-returns
 returns c =
-    rw (
-      c .ready-part .ensures,
-      c .before .process-word6 .ensures,
-      c .before .before .index-part .ensures,
-      c .before .before .before .process-word5 .ensures,
-      c .before .before .before .before .guards-part .ensures,
-      c .before .before .before .before .before .partner-part .ensures,
-      c .before .before .before .before .before .before .process-word4 .ensures,
-      c .before .before .before .before .before .before .before .channel-part .ensures,
-      c .before .before .before .before .before .before .before .before .process-word3 .ensures,
-      c .before .before .before .before .before .before .before .before .before .process-word2 .ensures,
-      c .before .before .before .before .before .before .before .before .before .before .process-word .ensures,
-    )
+    let asked = c .before .before .before .before .before .args in
+    let number = c .before .before .before .process-word .ensures in
+    c .choice-fits .ensures
+    ∙ with-guards (asked .t .now) (asked .cores) (asked .processes) (asked .channels) (asked .p) _ number
+    (sym (c .before .before .has-guards .ensures) ∙ c .before .if1 .taken)
+
+returns-2 : tie.Need-returns-2
+returns-2 c =
+    let asked = c .before .before .before .before .before .args in
+    let number = c .before .before .before .process-word .ensures in
+    c .exchange-fits .ensures
+    ∙ without-guards (asked .t .now) (asked .cores) (asked .processes) (asked .channels) (asked .p) _ number
+    (sym (c .before .before .has-guards .ensures) ∙ c .before .if1 .left)
 
 pub progress-fits-spec : {M : Type 1} → statement M
 progress-fits-spec =
     tie.close
     (tie.spec
     process-word-requires
-    process-word-requires-2
-    process-word-requires-3
-    mul-guards
-    add-guards
-    sub-guards
-    mul-guards-2
-    add-guards-2
-    add-guards-3
-    channel-part-requires
-    process-word-requires-4
-    partner-part-requires
-    guards-part-requires
-    process-word-requires-5
-    index-part-requires
-    process-word-requires-6
-    ready-part-requires
-    returns)
+    has-guards-requires
+    choice-fits-requires
+    exchange-fits-requires
+    returns
+    returns-2)
