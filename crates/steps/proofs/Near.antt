@@ -3,7 +3,6 @@ use Prim.Native.Nat.{ℕ, _<_}
 use mathlib.Core.Path.{_≡_}
 use mathlib.Core.Bool.{_&&_}
 use mathlib.Core.List.{List}
-use native.Mathlib.Omega.{arith}
 use lib.Dec.{T}
 use lib.ListN.{length, getD}
 use Rattle.rules.specs.State.{Way, Stage, look, park, copy, clear, wake, wiring}
@@ -15,8 +14,8 @@ use Rattle.words.specs.Meaning.{meaning}
 use Rattle.words.specs.declared.Holder.{Holder}
 use Rattle.table.specs.Has.{HasCore, HasProcess, HasChannel}
 use Rattle.parts.specs.Does.{Card, At}
-use Rattle.parts.proofs.Card.{cores-are, card-core, card-process, card-channel, runs-range, runs-process, stage-valid, own-end-range}
-use Rattle.steps.proofs.Packs.{Packs, IsProcess, IsChannel, card-packs}
+use Rattle.parts.proofs.Card.{card-inside, card-core, card-process, card-channel, runs-range, runs-process, stage-valid, own-end-range}
+use Rattle.parts.proofs.Packs.{Packs, IsProcess, IsChannel, card-packs}
 use Rattle.steps.proofs.Words.{found-there}
 
 -- the core k, the process p that runs there and its channel c
@@ -49,7 +48,7 @@ module _ {t : List ℕ} {cores processes k p : ℕ} {x : Stage} (at : At t cores
       record {
         card = at .card;
         packs = card-packs (at .card);
-        inside = let e = cores-are t cores processes k (at .card) in let h = at .card .inside in omega arith;
+        inside = card-inside (at .card);
         is-process = runs-range t cores processes k p x at;
         is-channel = range;
         core = card-core t cores processes k (at .card);

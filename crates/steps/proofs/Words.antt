@@ -1,17 +1,16 @@
--- What code reads in a channel word of a sound table, and the names that it writes there.
-use Prim.Native.Nat.{ℕ, _≤_, _<_, _^_}
+-- What code reads in a channel word of a sound table.
+use Prim.Native.Nat.{ℕ, _≤_}
 use mathlib.Core.Path.{_≡_, sym, ap, _∙_}
 use mathlib.Core.List.{List}
-use native.Mathlib.Omega.{arith}
 use lib.ListN.{length, getD}
-use Rattle.rules.specs.State.{Channel, Stage}
+use Rattle.rules.specs.State.{Channel}
 use Rattle.rules.specs.Items.{channel-of}
 use Rattle.rules.specs.Packing.{view, word-from, channel-at, channel-word, view-channel}
 use Rattle.packing.proofs.ViewChannel.{view-channel-back}
 use Rattle.words.specs.Meaning.{meaning}
 use Rattle.words.specs.declared.Holder.{Holder}
-use Rattle.parts.specs.Does.{Card, At}
-use Rattle.parts.proofs.Card.{packed, facts, runs-range}
+use Rattle.parts.specs.Does.{Card}
+use Rattle.parts.proofs.Card.{packed, facts}
 
 module _ {t : List ℕ} {cores processes k : ℕ} (card : Card t cores processes k) (c : ℕ) (low : 1 ≤ c) (high : c ≤ length (view t .channels)) where
   -- the word read means who stands there
@@ -26,10 +25,3 @@ module _ {t : List ℕ} {cores processes k : ℕ} (card : Card t cores processes
   pub found-there : {found h : Holder} → found ≡ h → meaning found ≡ word-from (getD t (channel-at cores processes c 2) 0)
       → channel-of (view t) c .word ≡ meaning h
   found-there told means = sym word-read ∙ sym means ∙ ap meaning told
-
--- the name of the running process fits a word
-pub name-fits : {t : List ℕ} {cores processes k p : ℕ} {x : Stage} → At t cores processes k p x → p < 2 ^ 31
-name-fits {t} {cores} {processes} {k} {p} {x} at =
-    let range = runs-range t cores processes k p x at in
-    let sizes = facts t (at .card .is-sound) .sizes in
-    omega arith
