@@ -4,7 +4,7 @@ use mathlib.Core.Path.{_≡_, sym, ap, _∙_, subst}
 use mathlib.Core.List.{List}
 use mathlib.Core.Option.{Option, none}
 use native.Mathlib.Omega.{arith}
-use lib.Dec.{T}
+use lib.Dec.{T, lit<}
 use lib.ListN.{length, getD}
 use Rattle.rules.specs.Lists.{within, all, distinct}
 use Rattle.rules.specs.State.{receiving, Stage, doing, nobody, wiring}
@@ -13,10 +13,9 @@ use Rattle.rules.specs.Choice.{guard}
 use Rattle.rules.specs.Packing.{of-choice, progress-words, view, word-number, word-from}
 use Rattle.rules.specs.Soundness.{own-end, own-guards, in-list, ready-in-list, valid-enabling, valid-disabling, valid-word}
 use Rattle.packing.proofs.Reflect.{both, three, within-means}
-use Rattle.packing.proofs.ViewChannel.{word-back}
 use Rattle.parts.specs.Does.{Card, At}
 use Rattle.parts.proofs.Card.{facts, card-core, card-process, card-channel, name-fits, runs-process}
-use Rattle.parts.proofs.Packs.{IsChannel, word-read}
+use Rattle.parts.proofs.Packs.{IsChannel, channel-read, who-stands}
 use Rattle.table.specs.Has.{HasCore, HasProcess, HasChannel}
 use Rattle.choice.specs.Read.{word-of, guard-at, guard-word-at, AtGuard}
 use Rattle.choice.proofs.Rules.{word-nobody}
@@ -89,11 +88,11 @@ module _ {t : List ℕ} {cores processes k p n : ℕ} {gs : List ℕ} {i : ℕ} 
   word-valid = facts t (h .card .is-sound) .channels (guard gs i) (guard-among .0) (guard-among .1) .word
 
   pub word-is : getD t (guard-word-at t cores processes p) 0 ≡ word-number (channel-of (view t) (guard gs i) .word)
-  word-is = rw guard-is (word-read (h .chooses .packs) (guard gs i) guard-among)
+  word-is = rw guard-is (channel-read (h .chooses .packs) (guard gs i) guard-among 2 (lit< tt))
 
   -- what is made of it there is the word
   pub found-word : word-from (getD t (guard-word-at t cores processes p) 0) ≡ channel-of (view t) (guard gs i) .word
-  found-word = ap word-from word-is ∙ word-back (wiring (view t)) (channel-of (view t) (guard gs i) .word) word-valid
+  found-word = rw guard-is (who-stands (h .card) (guard gs i) guard-among)
 
   -- a word of 0 is nobody's
   pub free-word : getD t (guard-word-at t cores processes p) 0 ≡ 0 → channel-of (view t) (guard gs i) .word ≡ nobody

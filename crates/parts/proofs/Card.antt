@@ -1,19 +1,16 @@
 -- What is known of a sound table and of the process that runs on one of its cores.
-use Prim.Native.Nat.{ℕ, zero, suc, _+_, _*_, _-_, _≤_, _<_, _^_}
-use mathlib.Core.Path.{_≡_, refl, sym, ap, _∙_, subst}
-use mathlib.Core.Bool.{Bool, true, false}
+use Prim.Native.Nat.{ℕ, _≤_, _<_, _^_}
+use mathlib.Core.Path.{_≡_, sym, ap, _∙_, subst}
 use mathlib.Core.List.{List}
 use native.Mathlib.Omega.{arith}
 use lib.Dec.{T, eqb}
 use lib.ListN.{length, length-map}
-use borrow.Author.Tests.{eqb-true}
 use Rattle.rules.specs.State.{Way, Stage, Progress, Work, Channel, State, wiring, end-of}
-use Rattle.rules.specs.Items.{core-of, process-of, channel-of}
+use Rattle.rules.specs.Items.{core-of}
 use Rattle.rules.specs.SetUp.{room}
-use Rattle.rules.specs.Packing.{pack, view, K-of, N-of, M-of, core-at, process-at, channel-at, word-number}
+use Rattle.rules.specs.Packing.{pack, view, K-of, N-of, M-of}
 use Rattle.rules.specs.Lists.{same-words, within}
 use Rattle.rules.specs.Soundness.{own-end, valid-stage, valid-progress, valid-work, valid, sound}
-use Rattle.packing.proofs.Regions.{Holds}
 use Rattle.packing.proofs.Blocks.{pack-holds}
 use Rattle.packing.proofs.Reflect.{Valid, valid-means, both, within-means, same-words-means}
 use Rattle.packing.proofs.Reading.{header-of-pack}

@@ -1,23 +1,25 @@
 -- A table that packs a state: what is read of it, and the state that it packs after a write.
-use Prim.Native.Nat.{ℕ, suc, _+_, _≤_, _<_}
+use Prim.Native.Nat.{ℕ, _+_, _≤_, _<_}
 use mathlib.Core.Path.{_≡_, refl, sym, ap, _∙_, subst, subst₂}
 use mathlib.Core.Bool.{Bool, true, false}
 use mathlib.Core.List.{List, [], _∷_, _++_}
 use native.Mathlib.Omega.{arith}
 use lib.Dec.{T, lit<}
 use lib.ListN.{length, getD, set, length-set, replicate}
-use Rattle.rules.specs.State.{Place, asleep, Alternation, Progress, nothing, Process, Task, free, ChannelWord, State}
+use Rattle.rules.specs.State.{Place, asleep, Alternation, Progress, nothing, Process, Task, free, ChannelWord, State, wiring}
 use Rattle.rules.specs.Items.{Kind, core, place, data-word, alternation, progress, channel-word, transfers, Val, core-of, process-of, channel-of, put}
-use Rattle.rules.specs.Packing.{pack, view, core-at, process-at, channel-at, place-number, word-number, work-words, progress-words}
+use Rattle.rules.specs.Packing.{pack, view, core-at, process-at, channel-at, place-number, word-number, word-from, work-words, progress-words}
 use Rattle.rules.specs.Steps.{with-work}
 use Rattle.rules.proofs.Frame.{put-other}
 use Rattle.packing.proofs.Focus.{writes, below}
-use Rattle.packing.proofs.ReadLaws.{alternation-words, after-work, listed, core-list, process-list, read-core, read-process, read-progress, read-channel}
+use Rattle.packing.proofs.ReadLaws.{alternation-words, after-work, listed, core-list, process-list, channel-list, read-core, read-process, read-progress}
+use Rattle.packing.proofs.ReadLaws.{read-channel}
 use Rattle.packing.proofs.States.{with-process, length-set-nth}
+use Rattle.packing.proofs.ViewChannel.{word-back}
 use Rattle.packing.proofs.WriteLaws.{put-place, put-data-word, put-alternation, put-progress, on-listed, put-channel-word, put-transfers, put-core}
 use Rattle.parts.specs.Does.{Card}
 use Rattle.parts.specs.Shared.{task-table, asleep-table, cleared}
-use Rattle.parts.proofs.Card.{packed, cores-are, processes-are}
+use Rattle.parts.proofs.Card.{packed, facts, cores-are, processes-are}
 use Rattle.parts.proofs.Rows.{in-row, writes-in-row}
 
 -- the table packs a state of as many cores and processes
@@ -77,11 +79,9 @@ module _ {t : List ℕ} {cores processes : ℕ} {s : State} (packs : Packs t cor
   -- Channels
 
   module _ (c : ℕ) (is : IsChannel s c) where
-    pub word-read : getD t (channel-at cores processes c 2) 0 ≡ word-number (channel-of s c .word)
-    word-read = rw (packs .is-pack, packs .all-cores, packs .all-processes) (read-channel s c 2 (is .0) (is .1) (lit< tt))
-
-    pub transfers-read : getD t (channel-at cores processes c 3) 0 ≡ channel-of s c .transfers
-    transfers-read = rw (packs .is-pack, packs .all-cores, packs .all-processes) (read-channel s c 3 (is .0) (is .1) (lit< tt))
+    -- a word, as a list's entry that computes
+    pub channel-read : (f : ℕ) → f < 4 → getD t (channel-at cores processes c f) 0 ≡ getD (channel-list (channel-of s c)) f 0
+    channel-read f b = rw (packs .is-pack, packs .all-cores, packs .all-processes) (read-channel s c f (is .0) (is .1) b)
 
     pub word-written : (w : ChannelWord) → Packs (set t (channel-at cores processes c 2) (word-number w)) cores processes (put channel-word c w s)
     word-written w = still refl refl (rw (packs .is-pack, packs .all-cores, packs .all-processes) (put-channel-word s c (is .0) (is .1) w))
@@ -92,7 +92,6 @@ module _ {t : List ℕ} {cores processes : ℕ} {s : State} (packs : Packs t cor
   -- Processes
 
   module _ (p : ℕ) (is : IsProcess s p) where
-    -- a word, as a list's entry that computes
     pub process-read : (f : ℕ) → f < 24 → getD t (process-at cores p f) 0 ≡ getD (process-list s p) f 0
     process-read f b = rw (packs .is-pack, packs .all-cores) (read-process s p f (is .0) (is .1) b)
 
@@ -157,3 +156,10 @@ pub asleep-written : {t : List ℕ} {cores processes : ℕ} {s : State} → Pack
     → (p : ℕ) → IsProcess s p → (x : Task) (task q : ℕ) → work-words (free x) ≡ 0 ∷ task ∷ q ∷ []
     → Packs (asleep-table t cores k p task q) cores processes (put core k (with-work (free x) (core-of s k)) (put place p asleep s))
 asleep-written packs k inside p is x task q e = task-written (place-written packs p is asleep) k inside x task q e
+
+-- who is found in a channel's word of a sound table stands there
+pub who-stands : {t : List ℕ} {cores processes k : ℕ} → Card t cores processes k → (c : ℕ) → IsChannel (view t) c
+    → word-from (getD t (channel-at cores processes c 2) 0) ≡ channel-of (view t) c .word
+who-stands {t} card c is =
+    ap word-from (channel-read (card-packs card) c is 2 (lit< tt))
+    ∙ word-back (wiring (view t)) (channel-of (view t) c .word) (facts t (card .is-sound) .channels c (is .0) (is .1) .word)

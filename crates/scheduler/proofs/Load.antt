@@ -1,7 +1,6 @@
 -- Load, and nothing to do: what they come to.
-use Prim.Native.Nat.{ℕ, zero, suc, _*_, _≤_, _<_, min}
+use Prim.Native.Nat.{ℕ, _*_, _≤_, _<_, min}
 use mathlib.Core.Path.{_≡_, refl, sym, ap, _∙_, subst}
-use mathlib.Core.Bool.{Bool, _&&_}
 use mathlib.Core.List.{List, [], _∷_}
 use native.Mathlib.Omega.{arith}
 use lib.Dec.{T, lit<, eqb}
@@ -11,13 +10,12 @@ use Rattle.rules.specs.Lists.{bit, first, within, all}
 use Rattle.rules.specs.Numbers.{MOVED, IDLE, yes-with}
 use Rattle.rules.specs.State.{Core, no-task}
 use Rattle.rules.specs.Items.{core-of, core, put, no-core}
-use Rattle.rules.specs.Rule.{run}
 use Rattle.rules.specs.Scheduler.{step}
 use Rattle.rules.specs.Packing.{pack, view, heads, word-at, core-at}
 use Rattle.rules.specs.Soundness.{not-empty}
-use Rattle.packing.specs.Queues.{load-table, with-queues, Queued}
+use Rattle.packing.specs.Queues.{load-table, with-queues}
 use Rattle.packing.proofs.Reflect.{both, within-means}
-use Rattle.packing.proofs.ReadLaws.{core-list, read-core}
+use Rattle.packing.proofs.ReadLaws.{read-core}
 use Rattle.packing.proofs.Load.{load-law}
 use Rattle.answers.specs.Four.{four}
 use Rattle.answers.specs.declared.Reply.{Reply}

@@ -1,28 +1,25 @@
 -- Store, whole or split, and load: what their writes come to.
-use Prim.Native.Nat.{ℕ, zero, suc, _*_, _≤_, _<_, min}
-use mathlib.Core.Path.{_≡_, refl, sym, ap, _∙_, subst, subst₂}
-use mathlib.Core.Bool.{Bool, true, false}
+use Prim.Native.Nat.{ℕ}
+use mathlib.Core.Path.{_≡_, sym, ap, _∙_, subst}
 use mathlib.Core.List.{List, [], _∷_}
 use mathlib.Core.Logic.{_⊎_, inl, inr}
 use native.Mathlib.Omega.{arith}
-use lib.Dec.{lit<, eqb}
+use lib.Dec.{lit<}
 use lib.ListN.{length}
-use Rattle.rules.specs.Lists.{bit, first}
 use Rattle.rules.specs.Numbers.{MOVED, yes-with}
 use Rattle.rules.specs.Items.{core-of, core, put}
-use Rattle.rules.specs.Rule.{run}
 use Rattle.rules.specs.Scheduler.{step}
-use Rattle.rules.specs.Packing.{pack, view, heads, word-at, core-at}
+use Rattle.rules.specs.Packing.{pack, view, word-at, core-at}
 use Rattle.packing.specs.Queues.{store-table, split-table}
 use Rattle.answers.specs.Four.{four}
 use Rattle.answers.specs.declared.Reply.{Reply}
 use Rattle.parts.specs.Does.{Comes, Does}
 use Rattle.parts.proofs.Packs.{on-pack, as-packed}
 use Rattle.parts.proofs.Flags.{set-flag, unset-flag}
-use Rattle.queues.specs.Fits.{CanStore, CanSplit, CanLoad}
-use Rattle.queues.proofs.Fits.{can-store, can-split, can-load}
-use Rattle.queues.proofs.Laws.{stores, store-marked-law, store-single-law, split-step-law, load-step-law}
-use Rattle.scheduler.specs.Free.{Free, Stores, Loads, loaded-table}
+use Rattle.queues.specs.Fits.{CanStore, CanSplit}
+use Rattle.queues.proofs.Fits.{can-store, can-split}
+use Rattle.queues.proofs.Laws.{stores, store-marked-law, store-single-law, split-step-law}
+use Rattle.scheduler.specs.Free.{Stores}
 use Rattle.scheduler.proofs.Idle as idle
 use Rattle.scheduler.proofs.Known.{free-packs, free-inside, free-order, free-read, begins}
 

@@ -1,47 +1,16 @@
 -- Take: the head of the active queue runs, and answers its outcome or MOVED.
-use Prim.Native.Nat.{ℕ, zero, suc, _+_, _-_, _≤_, _<_}
+use Prim.Native.Nat.{ℕ, suc, _+_, _-_, _≤_, _<_}
 use mathlib.Core.Path.{_≡_, refl, sym, ap, _∙_, subst, subst₂}
-use mathlib.Core.List.{List, [], _∷_}
+use mathlib.Core.List.{List, _∷_}
 use native.Mathlib.Omega.{arith}
-use lib.Dec.{T, lit≤, lit<}
-use lib.ListN.{length, getD, set, length-set}
+use lib.Dec.{lit≤, lit<}
+use lib.ListN.{getD, length-set}
 use Rattle.rules.specs.Numbers.{MOVED, GOT, yes-with}
-use Rattle.rules.specs.State.{
-  running,
-  sending,
-  receiving,
-  Stage,
-  look,
-  park,
-  copy,
-  clear,
-  wake,
-  enable-look,
-  raise,
-  place-name,
-  ready-from-look,
-  ready-from-place,
-  wait,
-  disable,
-  lower,
-  finish,
-  Outcome,
-  go,
-  sent,
-  got,
-  chose,
-  Progress,
-  nothing,
-  doing,
-  due,
-  Task,
-  State,
-}
+use Rattle.rules.specs.State.{running, sending, receiving, Stage, look, park, copy, clear, wake, enable-look, raise, place-name, ready-from-look, ready-from-place, wait, disable, lower, finish, Outcome, go, sent, got, chose, Progress, nothing, doing, due, State}
 use Rattle.rules.specs.Items.{core-of, process-of, core, place, put}
 use Rattle.rules.specs.Rule.{run}
 use Rattle.rules.specs.Scheduler.{taken, step}
-use Rattle.rules.specs.Packing.{pack, view, word-at, core-at, process-at, progress-words}
-use Rattle.packing.specs.Queues.{Queued}
+use Rattle.rules.specs.Packing.{view, word-at, core-at, process-at, progress-words}
 use Rattle.packing.proofs.States.{length-set-nth}
 use Rattle.packing.proofs.Links.{Stands}
 use Rattle.packing.proofs.Standing.{first-stands}
@@ -54,7 +23,7 @@ use Rattle.table.specs.Has.{HasProcess}
 use Rattle.queues.specs.Fits.{CanTake}
 use Rattle.queues.proofs.Fits.{can-take}
 use Rattle.queues.proofs.Laws.{takes, take-step-law}
-use Rattle.scheduler.specs.Free.{Free, Takes, taken-table}
+use Rattle.scheduler.specs.Free.{Takes, taken-table}
 use Rattle.scheduler.proofs.Idle as idle
 use Rattle.scheduler.proofs.Known.{free-packs, free-inside, free-order, free-read, begins}
 

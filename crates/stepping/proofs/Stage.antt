@@ -1,51 +1,22 @@
 -- The stage of a running process, by the number that is read, and what the step of its core then is.
-use Prim.Native.Nat.{ℕ, zero, suc, _+_, _≤_, _<_}
+use Prim.Native.Nat.{ℕ, _≤_}
 use mathlib.Core.Path.{_≡_, refl, sym, ap, _∙_, subst, subst₂}
-use mathlib.Core.List.{List, [], _∷_}
+use mathlib.Core.List.{List}
 use mathlib.Core.Logic.{_⊎_, inl, inr}
 use native.Mathlib.Decide.{ℕ-discrete}
 use native.Mathlib.Omega.{arith}
 use lib.ListN.{length, getD, take, List·getD-eq-default}
 use Rattle.rules.specs.Lists.{tabulate}
-use Rattle.rules.specs.Numbers.{Answer, AWAITED, no-because}
-use Rattle.rules.specs.State.{
-  Way,
-  sending,
-  receiving,
-  Stage,
-  look,
-  park,
-  copy,
-  clear,
-  wake,
-  enable-look,
-  raise,
-  place-name,
-  ready-from-look,
-  ready-from-place,
-  wait,
-  disable,
-  lower,
-  finish,
-  Outcome,
-  go,
-  sent,
-  got,
-  chose,
-  Progress,
-  nothing,
-  doing,
-  due,
-  Work,
-}
+use Rattle.rules.specs.Numbers.{AWAITED, no-because}
+use Rattle.rules.specs.State.{Way, sending, receiving, Stage, look, park, copy, clear, wake, enable-look, raise, place-name, ready-from-look, ready-from-place, wait, disable, lower, finish, Progress, nothing, doing, due, Work}
 use Rattle.rules.specs.Items.{core-of, process-of}
-use Rattle.rules.specs.Rule.{Ran, run}
+use Rattle.rules.specs.Rule.{run}
 use Rattle.rules.specs.Scheduler.{running-step, stage-step, work-step, step}
 use Rattle.rules.specs.Packing.{view, K-of, N-of, process-at, progress-from, ready-from}
 use Rattle.packing.proofs.Reflect.{within-means}
 use Rattle.answers.specs.Four.{four}
 use Rattle.answers.specs.declared.Reply.{Reply}
-use Rattle.parts.specs.Does.{Card, At, Comes, Does, of-way}
+use Rattle.parts.specs.Does.{At, Comes, Does, of-way}
 use Rattle.parts.proofs.Card.{card-process, work-valid, N-is}
 use Rattle.parts.proofs.Seen.{progress-seen}
 use Rattle.choice.specs.Read.{guards-at, index-at, ready-at}

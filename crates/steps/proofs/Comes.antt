@@ -14,7 +14,7 @@ use Rattle.answers.specs.Four.{four}
 use Rattle.answers.specs.declared.Reply.{Reply}
 use Rattle.parts.specs.Does.{At, Comes, Does, of-way}
 use Rattle.parts.specs.Shared.{asleep-table}
-use Rattle.parts.proofs.Packs.{Packs, IsProcess, still-process, progress-kept, transfers-read, process-read, word-written, transfers-written, data-written, asleep-written}
+use Rattle.parts.proofs.Packs.{Packs, IsProcess, still-process, progress-kept, channel-read, process-read, word-written, transfers-written, data-written, asleep-written}
 use Rattle.steps.specs.Outcomes.{due-of, copied}
 use Rattle.steps.proofs.Moves.{stage-words, goes-on, finds}
 use Rattle.steps.proofs.Near.{at-look, at-park, at-copy, at-clear}
@@ -88,7 +88,7 @@ module _ {t : List ℕ} {cores processes k p c q : ℕ} where
       let counted = transfers-written packs c (near .is-channel) ((channel-of (view t) c .transfers + 1) % 4294967296) in
       let had = progress-kept data-word tt d v (view t) p ∙ at .stage in
       let is : IsProcess (put data-word d v (view t)) p = still-process (view t) p d _ (near .is-process) in
-      rw (transfers-read packs c (near .is-channel)) (goes-on counted p is had (doing (clear w c q)) (words .copy) (words .clear) .is-pack)
+      rw (channel-read packs c (near .is-channel) 3 (lit< tt)) (goes-on counted p is had (doing (clear w c q)) (words .copy) (words .clear) .is-pack)
 
   pub copy-does : (w : Way) → At t cores processes k p (copy w c q) → {u : List ℕ} {n : ℕ} → u ≡ copied w t cores p q
       → n ≡ getD u (channel-at cores processes c 3) 0 → {m : ℕ} {v z : List ℕ} {r : Reply} → m ≡ (n + 1) % 4294967296

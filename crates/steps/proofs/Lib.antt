@@ -1,4 +1,3 @@
-pub mod Words
 pub mod Moves
 pub mod Near
 pub mod Comes
