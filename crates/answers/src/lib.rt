@@ -1,6 +1,6 @@
 // What a call answers, or why it is refused: the number returned and the answer words (docs/NUMBERS.md).
 ghost use mathlib.Core.Path.{_≡_};
-ghost use Prim.Native.Nat.{_<_, _≤_};
+ghost use Prim.Native.Nat.{_<_};
 ghost use lib.ListN.{length};
 ghost use Rattle.rules.specs.Numbers.{TAKEN, MOVED, SLEPT, IDLE, GO, SENT, GOT, CHOSE, yes-with};
 ghost use Rattle.answers.specs.Four.{four, words-after};

@@ -1,16 +1,18 @@
 -- What the wait and the steps of disabling come to: by a word that the code reads, the words that it writes then.
-use Prim.Native.Nat.{ℕ, _+_, _-_}
+use Prim.Native.Nat.{ℕ, zero, suc, _+_, _-_}
 use mathlib.Core.Path.{_≡_, refl, sym, ap, _∙_, subst}
 use mathlib.Core.Bool.{Bool, true, false}
 use mathlib.Core.List.{List, [], _∷_}
 use mathlib.Core.Option.{Option, none}
+use native.Mathlib.Omega.{arith}
 use lib.Dec.{eqb, lit<}
 use lib.ListN.{getD, set}
+use lib.Seq.{set-set, getD-set-same}
 use borrow.Author.Tests.{eq-eqb, ne-eqb}
 use Rattle.rules.specs.Lists.{if_then_else_, bit}
 use Rattle.rules.specs.Numbers.{Answer, MOVED, SLEPT, FAULT, yes-with, no-because}
-use Rattle.rules.specs.State.{wait, disable, lower, finish, doing, Alternation, ChannelWord, nobody, State, wiring}
-use Rattle.rules.specs.Items.{process-of, put, alternation, progress}
+use Rattle.rules.specs.State.{wait, disable, lower, finish, Progress, doing, Alternation, Process, no-task, ChannelWord, nobody, State, wiring}
+use Rattle.rules.specs.Items.{process-of, no-process, put, alternation, progress}
 use Rattle.rules.specs.Rule.{Rule, run, becomes, _>>_}
 use Rattle.rules.specs.Steps.{next}
 use Rattle.rules.specs.Choice.{guard, counting, flags, waits, wait-step, disable-next, keep-first, disabled, disable-step, lower-step}
@@ -24,13 +26,34 @@ use Rattle.answers.specs.Four.{four}
 use Rattle.answers.specs.declared.Reply.{Reply}
 use Rattle.parts.specs.Does.{At, Comes, Does}
 use Rattle.parts.specs.Shared.{asleep-table}
-use Rattle.parts.proofs.Card.{stage-valid}
+use Rattle.parts.proofs.Card.{card-inside, stage-valid}
+use Rattle.parts.proofs.Packs.{IsProcess, still-process, process-read, asleep-written}
+use Rattle.parts.proofs.Flags.{clear-flag, set-flag}
 use Rattle.choice.specs.Read.{word-of, guard-word-at, AtGuard, stage-table, next-table, flags-table, kept-table}
-use Rattle.choice.proofs.Packs.{put-twice, among-kept, state-reads, asleep-packs}
 use Rattle.choice.proofs.Guards.{Chooses, at-chooses, index-reads, ready-reads, count-is, same-guard, other-guard, next-packs}
 use Rattle.choice.proofs.Guards.{alternation-chooses, ready-chooses, word-chooses}
-use Rattle.choice.proofs.Rules.{clear-flag, set-flag, kept-number, lowered-fault, lowered-on}
+use Rattle.choice.proofs.Rules.{kept-number, lowered-fault, lowered-on}
 use Rattle.choice.proofs.Stands.{Stands, disabling-stands, guard-among, guard-is, has-guard, found-word}
+
+-- Two changes of one process's progress are one.
+pub put-twice : (s : State) (p : ℕ) (x y : Progress) → IsProcess s p → put progress p y (put progress p x s) ≡ put progress p y s
+put-twice s zero x y among = absurd (omega arith)
+put-twice s (suc p) x y among =
+    ap (λ (q : Process). with-processes (set (set (s .processes) p between) p (with-progress y q)))
+    (getD-set-same (s .processes) p between no-process (omega arith))
+    ∙ ap with-processes (set-set (s .processes) p between (with-progress y old))
+  where
+    with-progress : Progress → Process → Process
+    with-progress z r = record { place = r .place; data-word = r .data-word; alternation = r .alternation; progress = z }
+
+    with-processes : List Process → State
+    with-processes l = record { cores = s .cores; processes = l; channels = s .channels }
+
+    old : Process
+    old = process-of s (suc p)
+
+    between : Process
+    between = with-progress x old
 
 -- From a guard that is disabled the choice goes to the next.
 disabled-packs : {t : List ℕ} {cores processes : ℕ} {s : State} {p n : ℕ} {gs : List ℕ} {i : ℕ} {x : Option ℕ}
@@ -50,7 +73,7 @@ module _ {t : List ℕ} {cores processes k p : ℕ} {gs : List ℕ} where
     waiter = process-of (view t) p .alternation
 
     flag-is : word-of t cores p 3 ≡ bit (waiter .not-ready)
-    flag-is = state-reads (wait-chooses .packs) p (wait-chooses .among) 3 (lit< tt)
+    flag-is = process-read (wait-chooses .packs) p (wait-chooses .among) 3 (lit< tt)
 
     -- a guard is ready
     pub wait-ready : {r : Reply} {u : List ℕ} → word-of t cores p 3 ≡ 0 → r ≡ four (yes-with MOVED)
@@ -61,7 +84,7 @@ module _ {t : List ℕ} {cores processes k p : ℕ} {gs : List ℕ} where
         subst (λ (y : Bool). Comes (run (waits k p gs waiter y) (view t)) t r u) (sym clear) (
           a,
           b ∙ other-guard (alternation-chooses wait-chooses (flags false false (waiter .waiting) waiter) ((0, 0) ∷ []) tt
-              (ap (λ (y : Bool). 0 ∷ bit y ∷ bit (waiter .waiting) ∷ waiter .count ∷ []) clear)) (disable gs 1 none) 17 1 refl .is,
+              (ap (λ (y : Bool). 0 ∷ bit y ∷ bit (waiter .waiting) ∷ waiter .count ∷ []) clear)) (disable gs 1 none) 17 1 refl .is-pack,
         )
 
     -- none is. The word read is n, the tables on the way are v and w.
@@ -75,7 +98,8 @@ module _ {t : List ℕ} {cores processes k p : ℕ} {gs : List ℕ} where
         subst (λ (y : Bool). Comes (run (waits k p gs waiter y) (view t)) t r u) (sym none-ready) (
           a,
           b ∙ ap (λ (l : List ℕ). asleep-table l cores k p 0 0) (second ∙ ap (λ (l : List ℕ). stage-table l cores p 1 17) first)
-              ∙ asleep-packs (other-guard put-flags (disable gs 1 none) 17 1 refl) p (among-kept waiting p _ (put-flags .among)) k (at .card .inside),
+              ∙ asleep-written (other-guard put-flags (disable gs 1 none) 17 1 refl) k (card-inside (at .card)) p
+              (still-process waiting p p _ (put-flags .among)) no-task 0 0 refl .is-pack,
         )
 
   -- Disable
@@ -120,12 +144,11 @@ module _ {t : List ℕ} {cores processes k p : ℕ} {gs : List ℕ} where
           → Does (disable-step p gs i x) t r u
       unfolding progress-words
       disable-own {q} finds reads made own a b =
-          let among = guard-among disable-stands in
           by-word finds reads made r u
           (rw (eq-eqb q p own) (
             a,
             b ∙ ap (λ (c : ℕ). set (set t (channel-at cores processes c 2) 0) (process-at cores p 6) 18) (guard-is disable-stands)
-                ∙ same-guard (word-chooses (disable-stands .chooses) (guard gs i) (among .0) (among .1) nobody) (lower gs i x) 18 refl,
+                ∙ same-guard (word-chooses (disable-stands .chooses) (guard gs i) (guard-among disable-stands) nobody) (lower gs i x) 18 refl,
           ))
 
       pub disable-other : {q : ℕ} → found ≡ Choosing q → n ≡ getD t (guard-word-at t cores processes p) 0 → meaning found ≡ word-from n

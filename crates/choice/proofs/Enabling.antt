@@ -115,11 +115,10 @@ module _ {t : List ℕ} {cores processes k p : ℕ} {gs : List ℕ} {i : ℕ} wh
     pub place-free : {r : Reply} {u : List ℕ} → getD t (guard-word-at t cores processes p) 0 ≡ 0 → r ≡ four (yes-with MOVED)
         → u ≡ next-table (set t (guard-word-at t cores processes p) (word-number (choosing p))) cores p 11 16 → Does (place-step p gs i) t r u
     place-free {r} {u} e a b =
-        let among = guard-among place-stands in
         subst (λ (w : ChannelWord). Comes (run (placed p gs i w) (view t)) t r u) (sym (free-word place-stands e)) (
           a,
           b ∙ ap (λ (c : ℕ). next-table (set t (channel-at cores processes c 2) (word-number (choosing p))) cores p 11 16) (guard-is place-stands)
-              ∙ enabled-packs (word-chooses (place-stands .chooses) (guard gs i) (among .0) (among .1) (choosing p)),
+              ∙ enabled-packs (word-chooses (place-stands .chooses) (guard gs i) (guard-among place-stands) (choosing p)),
         )
 
     -- it is somebody's

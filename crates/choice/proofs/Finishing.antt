@@ -10,27 +10,34 @@ use lib.ListN.{length, set}
 use borrow.Author.Tests.{eq-eqb, ne-eqb}
 use Rattle.rules.specs.Lists.{if_then_else_, bit, within, all, distinct}
 use Rattle.rules.specs.Numbers.{Answer, MOVED, SLEPT, CHOSE, FAULT, yes-with, no-because}
-use Rattle.rules.specs.State.{receiving, finish, Alternation, no-task, trigger, wake-up, Work, free, State, wiring}
-use Rattle.rules.specs.Items.{core-of, process-of, put, alternation}
+use Rattle.rules.specs.State.{receiving, finish, chose, due, Alternation, no-task, trigger, wake-up, free, State, wiring}
+use Rattle.rules.specs.Items.{core-of, process-of, put, alternation, progress}
 use Rattle.rules.specs.Rule.{Rule, run, done, the, becomes, _>>=_, _>>_}
 use Rattle.rules.specs.Steps.{has-task}
 use Rattle.rules.specs.Choice.{guard, counting, flags, lowered, finished, finish-step, trigger-step}
 use Rattle.rules.specs.Packing.{work-words, ready-number, progress-words, view, process-at}
-use Rattle.rules.specs.Soundness.{own-end, own-guards, ready-in-list, valid-work}
+use Rattle.rules.specs.Soundness.{own-end, own-guards, ready-in-list}
 use Rattle.rules.proofs.Tests.{both, three, within-means}
 use Rattle.table.specs.Has.{HasProcess}
 use Rattle.answers.specs.Four.{four}
 use Rattle.answers.specs.declared.Reply.{Reply}
 use Rattle.parts.specs.Does.{Card, At, Comes, Does}
 use Rattle.parts.specs.Shared.{task-table, asleep-table, cleared, due-table}
-use Rattle.parts.proofs.Card.{facts, cores-are, card-process, stage-valid, runs-process}
+use Rattle.parts.proofs.Card.{card-inside, card-process, work-valid, stage-valid, runs-process}
+use Rattle.parts.proofs.Packs.{Packs, IsProcess, card-packs, still-process, process-read, alternation-written, fresh-written, progress-cleared}
+use Rattle.parts.proofs.Packs.{task-written, asleep-written}
+use Rattle.parts.proofs.Flags.{set-flag, unset-flag}
 use Rattle.choice.specs.Read.{word-of, triggered-table}
-use Rattle.choice.proofs.Packs.{Among, card-packs, among-kept, state-reads, alternation-packs, task-packs, cleared-packs, due-packs}
-use Rattle.choice.proofs.Packs.{asleep-packs}
 use Rattle.choice.proofs.Guards.{Chooses, at-chooses, ready-reads, guard-reads, count-is, alternation-chooses}
-use Rattle.choice.proofs.Rules.{ready-range, first-fault, first-on, lowered-fault, lowered-on, set-flag, unset-flag}
+use Rattle.choice.proofs.Rules.{ready-range, first-fault, first-on, lowered-fault, lowered-on}
 
 -- Finish
+
+-- process p has chosen, and the outcome is due
+chose-due : {t : List ℕ} {cores processes : ℕ} {s : State} → Packs t cores processes s → (p : ℕ) → IsProcess s p → (c : ℕ)
+    → Packs (due-table t cores p 23 c) cores processes (put progress p (due (chose c)) s)
+unfolding progress-words
+chose-due packs p is c = fresh-written packs p is (due (chose c)) ((0, 23) ∷ (1, c) ∷ []) tt refl
 
 module _ {t : List ℕ} {cores processes k p : ℕ} {gs : List ℕ} {x : Option ℕ} (at : At t cores processes k p (finish gs x)) where
   finish-chooses : Chooses t cores processes (view t) p 19 gs 0 x
@@ -117,7 +124,7 @@ module _ {t : List ℕ} {cores processes k p : ℕ} {gs : List ℕ} {x : Option 
         ended r u (λ z. omega arith)
         (subst (λ (n : ℕ). Comes (run (finished k p (guard gs (ready-number x)) n) less) t r u)
         (sym left)
-        (a ∙ ap (λ (c : ℕ). four (yes-with (CHOSE p c))) (chosen there), b ∙ cleared-packs (finish-lowered .packs) p (finish-lowered .among) .is))
+        (a ∙ ap (λ (c : ℕ). four (yes-with (CHOSE p c))) (chosen there), b ∙ progress-cleared (finish-lowered .packs) p (finish-lowered .among) .is-pack))
 
   -- above 0: it sleeps. The words read are i and m, the tables on the way v and w.
   pub finish-later : {r : Reply} {u v w : List ℕ} {i m c : ℕ} → i ≡ word-of t cores p 11 → m ≡ word-of t cores p 5
@@ -136,18 +143,15 @@ module _ {t : List ℕ} {cores processes k p : ℕ} {gs : List ℕ} {x : Option 
       (subst (λ (n : ℕ). Comes (run (finished k p g n) less) t r u) (sym left) (
         a,
         b ∙ ap (λ (l : List ℕ). asleep-table l cores k p 0 0) due-there
-            ∙ asleep-packs (due-packs (lower .packs) p (lower .among) g) p (among-kept less p _ (lower .among)) k (at .card .inside),
+            ∙ asleep-written (chose-due (lower .packs) p (lower .among) g) k (card-inside (at .card)) p (still-process less p p _ (lower .among))
+            no-task 0 0 refl .is-pack,
       ))
 
 -- Trigger
 
 module _ {t : List ℕ} {cores processes k q : ℕ} (card : Card t cores processes k) (work : core-of (view t) k .work ≡ free (trigger q)) where
-  trigger-among : Among (view t) q
-  trigger-among =
-      let e = cores-are t cores processes k card in
-      let inside = card .inside in
-      let valid : T (valid-work (wiring (view t)) (core-of (view t) k .work)) = facts t (card .is-sound) .cores k (omega arith) .work in
-      within-means 1 (length (view t .processes)) q (subst (λ (w : Work). T (valid-work (wiring (view t)) w)) work valid)
+  trigger-among : IsProcess (view t) q
+  trigger-among = within-means 1 (length (view t .processes)) q (work-valid card work)
 
   -- the table has the words of q
   pub trigger-process : HasProcess t cores q
@@ -157,10 +161,10 @@ module _ {t : List ℕ} {cores processes k q : ℕ} (card : Card t cores process
   triggered = process-of (view t) q .alternation
 
   trigger-count : word-of t cores q 5 ≡ triggered .count
-  trigger-count = state-reads (card-packs card) q trigger-among 5 (lit< tt)
+  trigger-count = process-read (card-packs card) q trigger-among 5 (lit< tt)
 
   trigger-waiting : word-of t cores q 4 ≡ bit (triggered .waiting)
-  trigger-waiting = state-reads (card-packs card) q trigger-among 4 (lit< tt)
+  trigger-waiting = process-read (card-packs card) q trigger-among 4 (lit< tt)
 
   -- what follows the count
   abbrev triggering : ℕ → Rule Answer
@@ -183,9 +187,9 @@ module _ {t : List ℕ} {cores processes k q : ℕ} (card : Card t cores process
         lowered-on (view t) t triggering r u (triggered .count) (λ e. ne (trigger-count ∙ e)) (
           a,
           b ∙ ap (λ (l : List ℕ). task-table l k task p) first
-              ∙ task-packs (alternation-packs (card-packs card) q trigger-among (flags (triggered .enabling) false false (counting n triggered))
-              ((1, 0) ∷ (2, 0) ∷ (3, m - 1) ∷ []) tt (rw count)) k (card .inside)
-              (if triggered .waiting || eqb n 0 then wake-up q else no-task) task p words .is,
+              ∙ task-written (alternation-written (card-packs card) q trigger-among (flags (triggered .enabling) false false (counting n triggered))
+              ((1, 0) ∷ (2, 0) ∷ (3, m - 1) ∷ []) tt (rw count)) k (card-inside card)
+              (if triggered .waiting || eqb n 0 then wake-up q else no-task) task p words .is-pack,
         )
 
     -- waiting had been set

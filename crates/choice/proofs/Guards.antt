@@ -17,19 +17,19 @@ use Rattle.rules.specs.Soundness.{own-end, own-guards}
 use Rattle.packing.proofs.Focus.{writes, below}
 use Rattle.rules.proofs.Packing.Blocks.{second-part}
 use Rattle.rules.proofs.Tests.{three, all-at}
-use Rattle.rules.proofs.Packing.ReadLaws.{alternation-words, padded-listed}
 use Rattle.rules.proofs.Tabulate.{tabulate-at}
+use Rattle.rules.proofs.Packing.ReadLaws.{alternation-words, padded-listed}
 use Rattle.packing.proofs.WriteLaws.{nth-set-same}
 use Rattle.parts.specs.Does.{At}
 use Rattle.parts.proofs.Card.{own-end-range, runs-range}
+use Rattle.parts.proofs.Packs.{Packs, IsProcess, IsChannel, card-packs, still-process, progress-kept, process-read, progress-read, word-written}
+use Rattle.parts.proofs.Packs.{alternation-written, progress-written}
 use Rattle.choice.specs.Read.{word-of, stage-table, next-table}
-use Rattle.choice.proofs.Packs.{Packs, Among, card-packs, progress-kept, among-kept, progress-reads, state-reads, alternation-packs}
-use Rattle.choice.proofs.Packs.{progress-packs, word-packs}
 
 -- The table packs s, and process p is at a stage of a choice with this number, these guards, this index and first ready guard.
 pub record Chooses (t : List ℕ) (cores processes : ℕ) (s : State) (p n : ℕ) (gs : List ℕ) (i : ℕ) (r : Option ℕ) : Type 0 where
   pub packs : Packs t cores processes s
-  pub among : Among s p
+  pub among : IsProcess s p
   pub words : progress-words (process-of s p .progress) ≡ of-choice n gs i r
 
 -- so it is where a process runs at such a stage
@@ -44,7 +44,7 @@ at-chooses {t} {cores} {processes} {k} {p} {x} at n gs i r words =
 
 -- a guard of one's own is a channel
 pub guard-range : (s : State) (p : ℕ) (gs : List ℕ) → T (own-guards (wiring s) p gs) → (i : ℕ) → 1 ≤ i → i ≤ length gs
-    → (1 ≤ guard gs i) × (guard gs i ≤ length (s .channels))
+    → IsChannel s (guard gs i)
 guard-range s p gs own zero low high = absurd (omega arith)
 guard-range s p gs own (suc i) low high =
     let t = three (within 1 8 (length gs)) (all (own-end (wiring s) receiving p) gs) (distinct gs) own in
@@ -54,7 +54,7 @@ module _ {t : List ℕ} {cores processes : ℕ} {s : State} {p n : ℕ} {gs : Li
     (h : Chooses t cores processes s p n gs i r) where
   -- the words of its progress
   reads : (f : ℕ) → f < 14 → word-of t cores p (6 + f) ≡ getD (of-choice n gs i r) f 0
-  reads f b = progress-reads (h .packs) p (h .among) f b ∙ ap (λ (l : List ℕ). getD l f 0) (h .words)
+  reads f b = progress-read (h .packs) p (h .among) f b ∙ ap (λ (l : List ℕ). getD l f 0) (h .words)
 
   pub length-reads : word-of t cores p 9 ≡ length gs
   length-reads = reads 3 (lit< tt)
@@ -76,20 +76,20 @@ module _ {t : List ℕ} {cores processes : ℕ} {s : State} {p n : ℕ} {gs : Li
 
   -- its count
   pub count-is : word-of t cores p 5 ≡ process-of s p .alternation .count
-  count-is = state-reads (h .packs) p (h .among) 5 (lit< tt)
+  count-is = process-read (h .packs) p (h .among) 5 (lit< tt)
 
   -- it is at another stage with the same guards
   stage-packs : (x : Stage) (n′ i′ : ℕ) (r′ : Option ℕ) (ws : List (ℕ × ℕ)) → T (below 14 (λ j. j) ws)
       → writes ws (λ j. j) (of-choice n gs i r) ≡ of-choice n′ gs i′ r′ → progress-words (doing x) ≡ of-choice n′ gs i′ r′
       → Packs (writes ws (λ j. process-at cores p (6 + j)) t) cores processes (put progress p (doing x) s)
   stage-packs x n′ i′ r′ ws b turned words =
-      progress-packs (h .packs) p (h .among) (doing x) ws b
+      progress-written (h .packs) p (h .among) (doing x) ws b
       (ap (writes ws (λ j. j)) (h .words) ∙ turned ∙ sym words)
 
   -- at the same guard
   pub same-guard : (x : Stage) (n′ : ℕ) → progress-words (doing x) ≡ of-choice n′ gs i r
       → set t (process-at cores p 6) n′ ≡ pack (put progress p (doing x) s)
-  same-guard x n′ words = stage-packs x n′ i r ((0, n′) ∷ []) tt refl words .is
+  same-guard x n′ words = stage-packs x n′ i r ((0, n′) ∷ []) tt refl words .is-pack
 
   -- at another guard
   pub other-guard : (x : Stage) (n′ i′ : ℕ) → progress-words (doing x) ≡ of-choice n′ gs i′ r
@@ -105,8 +105,8 @@ module _ {t : List ℕ} {cores processes : ℕ} {s : State} {p n : ℕ} {gs : Li
     where
       cases : (b : Bool) → (if b then stage-table t cores p (i + 1) again else stage-table t cores p 0 after)
           ≡ pack (put progress p (doing (if b then x else y)) s)
-      cases true = other-guard x again (i + 1) more .is
-      cases false = other-guard y after 0 last .is
+      cases true = other-guard x again (i + 1) more .is-pack
+      cases false = other-guard y after 0 last .is-pack
 
   -- Changes of other items leave it there.
   pub alternation-chooses : (v : Alternation) (ws : List (ℕ × ℕ)) → T (below 4 (λ j. j) ws)
@@ -114,9 +114,9 @@ module _ {t : List ℕ} {cores processes : ℕ} {s : State} {p n : ℕ} {gs : Li
       → Chooses (writes ws (λ j. process-at cores p (2 + j)) t) cores processes (put alternation p v s) p n gs i r
   alternation-chooses v ws b turned =
       record {
-        packs = alternation-packs (h .packs) p (h .among) v ws b turned;
-        among = among-kept s p _ (h .among);
-        words = ap progress-words (progress-kept s p v (h .among)) ∙ h .words;
+        packs = alternation-written (h .packs) p (h .among) v ws b turned;
+        among = still-process s p p _ (h .among);
+        words = ap progress-words (progress-kept alternation tt p v s p) ∙ h .words;
       }
 
   -- Another first ready guard is kept.
@@ -125,11 +125,10 @@ module _ {t : List ℕ} {cores processes : ℕ} {s : State} {p n : ℕ} {gs : Li
   ready-chooses x a r′ e words =
       record {
         packs = stage-packs x n i r′ ((5, a) ∷ []) tt (rw e) words;
-        among = among-kept s p _ (h .among);
+        among = still-process s p p _ (h .among);
         words = ap (λ (y : Process). progress-words (y .progress)) (nth-set-same (s .processes) p _ no-process (h .among .0) (h .among .1)) ∙ words;
       }
 
-  pub word-chooses : (c : ℕ) → 1 ≤ c → c ≤ length (s .channels) → (w : ChannelWord)
+  pub word-chooses : (c : ℕ) → IsChannel s c → (w : ChannelWord)
       → Chooses (set t (channel-at cores processes c 2) (word-number w)) cores processes (put channel-word c w s) p n gs i r
-  word-chooses c low high w =
-      record { packs = word-packs (h .packs) c low high w; among = h .among; words = h .words }
+  word-chooses c is w = record { packs = word-written (h .packs) c is w; among = h .among; words = h .words }

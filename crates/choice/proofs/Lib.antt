@@ -1,4 +1,3 @@
-pub mod Packs
 pub mod Guards
 pub mod Rules
 pub mod Stands

@@ -1,14 +1,13 @@
 -- What a rule comes to that reads a count or a channel word, by the number in the table.
 use Prim.Native.Nat.{ℕ, zero, suc, _+_, _-_, _≤_}
 use mathlib.Core.Path.{_≡_, refl, subst}
-use mathlib.Core.Bool.{Bool, true, false}
 use mathlib.Core.List.{List}
 use mathlib.Core.Option.{Option, none, some}
 use native.Mathlib.Omega.{arith}
 use borrow.Author.Tests.{eq-eqb, ne-eqb}
 use lib.Dec.{T, eqb}
 use lib.ListN.{length}
-use Rattle.rules.specs.Lists.{if_then_else_, bit}
+use Rattle.rules.specs.Lists.{if_then_else_}
 use Rattle.rules.specs.Numbers.{Answer, FAULT, no-because}
 use Rattle.rules.specs.State.{ChannelWord, nobody, plain, choosing, State, Wiring}
 use Rattle.rules.specs.Rule.{Rule, run, _>>=_}
@@ -25,20 +24,6 @@ pub word-nobody : (w : Wiring) (x : ChannelWord) → T (valid-word w x) → word
 word-nobody w nobody h e = refl
 word-nobody w (plain q) h e = let range = within-means 1 (w .N) q h in absurd (omega arith)
 word-nobody w (choosing q) h e = absurd (omega arith)
-
--- a flag of number 0 is clear, and any other is set
-pub clear-flag : (b : Bool) → bit b ≡ 0 → b ≡ false
-clear-flag true e = absurd (omega arith)
-clear-flag false e = refl
-
-pub set-flag : (b : Bool) → (bit b ≡ 0 → ⊥) → b ≡ true
-set-flag true there = refl
-set-flag false there = absurd (there refl)
-
--- a flag that isn't of number 1 is clear
-pub unset-flag : (b : Bool) → (bit b ≡ 1 → ⊥) → b ≡ false
-unset-flag true calm = absurd (calm refl)
-unset-flag false calm = refl
 
 -- a first ready guard that is there lies in its list
 pub ready-range : (gs : List ℕ) (r : Option ℕ) → T (ready-in-list gs r) → (ready-number r ≡ 0 → ⊥)

@@ -4,7 +4,7 @@ use mathlib.Core.Path.{_≡_, sym, ap, _∙_, subst}
 use mathlib.Core.List.{List}
 use mathlib.Core.Option.{Option, none}
 use native.Mathlib.Omega.{arith}
-use lib.Dec.{T}
+use lib.Dec.{T, lit<}
 use lib.ListN.{length, getD}
 use Rattle.rules.specs.Lists.{within, all, distinct}
 use Rattle.rules.specs.State.{receiving, Stage, doing, nobody, wiring}
@@ -13,12 +13,11 @@ use Rattle.rules.specs.Choice.{guard}
 use Rattle.rules.specs.Packing.{of-choice, progress-words, view, word-number, word-from}
 use Rattle.rules.specs.Soundness.{own-end, own-guards, in-list, ready-in-list, valid-enabling, valid-disabling, valid-word}
 use Rattle.rules.proofs.Tests.{both, three, within-means}
-use Rattle.rules.proofs.Packing.ViewChannel.{word-back}
 use Rattle.parts.specs.Does.{Card, At}
-use Rattle.parts.proofs.Card.{facts, card-core, card-process, card-channel, runs-process}
+use Rattle.parts.proofs.Card.{facts, card-core, card-process, card-channel, name-fits, runs-process}
+use Rattle.parts.proofs.Packs.{IsChannel, channel-read, who-stands}
 use Rattle.table.specs.Has.{HasCore, HasProcess, HasChannel}
 use Rattle.choice.specs.Read.{word-of, guard-at, guard-word-at, AtGuard}
-use Rattle.choice.proofs.Packs.{word-reads}
 use Rattle.choice.proofs.Rules.{word-nobody}
 use Rattle.choice.proofs.Guards.{Chooses, at-chooses, guard-range, index-reads, guard-reads}
 
@@ -61,7 +60,7 @@ module _ {t : List ℕ} {cores processes k p n : ℕ} {gs : List ℕ} {i : ℕ} 
       (index .0, index .1, within-means 1 8 (length gs) (list .0) .1)
 
   -- the guard is a channel, and is read off the table
-  pub guard-among : (1 ≤ guard gs i) × (guard gs i ≤ length (view t .channels))
+  pub guard-among : IsChannel (view t) (guard gs i)
   guard-among = guard-range (view t) p gs (h .own) i (index-range .0) (index-range .1)
 
   pub guard-is : guard-at t cores p ≡ guard gs i
@@ -89,11 +88,11 @@ module _ {t : List ℕ} {cores processes k p n : ℕ} {gs : List ℕ} {i : ℕ} 
   word-valid = facts t (h .card .is-sound) .channels (guard gs i) (guard-among .0) (guard-among .1) .word
 
   pub word-is : getD t (guard-word-at t cores processes p) 0 ≡ word-number (channel-of (view t) (guard gs i) .word)
-  word-is = rw guard-is (word-reads (h .chooses .packs) (guard gs i) (guard-among .0) (guard-among .1))
+  word-is = rw guard-is (channel-read (h .chooses .packs) (guard gs i) guard-among 2 (lit< tt))
 
   -- what is made of it there is the word
   pub found-word : word-from (getD t (guard-word-at t cores processes p) 0) ≡ channel-of (view t) (guard gs i) .word
-  found-word = ap word-from word-is ∙ word-back (wiring (view t)) (channel-of (view t) (guard gs i) .word) word-valid
+  found-word = rw guard-is (who-stands (h .card) (guard gs i) guard-among)
 
   -- a word of 0 is nobody's
   pub free-word : getD t (guard-word-at t cores processes p) 0 ≡ 0 → channel-of (view t) (guard gs i) .word ≡ nobody
@@ -101,7 +100,4 @@ module _ {t : List ℕ} {cores processes k p n : ℕ} {gs : List ℕ} {i : ℕ} 
 
   -- the process's number is small
   pub number-small : p < 2 ^ 31
-  number-small =
-      let among = h .chooses .among in
-      let sizes = facts t (h .card .is-sound) .sizes in
-      omega arith
+  number-small = name-fits (h .card) (h .chooses .among .1)

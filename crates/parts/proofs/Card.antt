@@ -1,24 +1,22 @@
 -- What is known of a sound table and of the process that runs on one of its cores.
-use Prim.Native.Nat.{ℕ, zero, suc, _+_, _*_, _-_, _≤_, _<_}
-use mathlib.Core.Path.{_≡_, refl, sym, ap, _∙_, subst}
-use mathlib.Core.Bool.{Bool, true, false}
+use Prim.Native.Nat.{ℕ, _≤_, _<_, _^_}
+use mathlib.Core.Path.{_≡_, sym, ap, _∙_, subst}
 use mathlib.Core.List.{List}
 use native.Mathlib.Omega.{arith}
 use lib.Dec.{T, eqb}
 use lib.ListN.{length, length-map}
-use borrow.Author.Tests.{eqb-true}
 use Rattle.rules.specs.State.{Way, Stage, Progress, Work, Channel, State, wiring, end-of}
-use Rattle.rules.specs.Items.{core-of, process-of, channel-of}
+use Rattle.rules.specs.Items.{core-of}
 use Rattle.rules.specs.SetUp.{room}
-use Rattle.rules.specs.Packing.{pack, view, K-of, N-of, M-of, core-at, process-at, channel-at, word-number}
+use Rattle.rules.specs.Packing.{pack, view, K-of, N-of, M-of}
 use Rattle.rules.specs.Lists.{same-words, within}
-use Rattle.rules.specs.Soundness.{is-process, own-end, valid-stage, valid-progress, valid-work, valid, sound}
-use Rattle.rules.proofs.Packing.Regions.{Holds}
+use Rattle.rules.specs.Soundness.{own-end, valid-stage, valid-progress, valid-work, valid, sound}
 use Rattle.rules.proofs.Packing.Blocks.{pack-holds}
 use Rattle.rules.proofs.Tests.{both, within-means, same-words-means}
 use Rattle.rules.proofs.Packing.Reflect.{Valid, valid-means}
 use Rattle.rules.proofs.Packing.Reading.{header-of-pack}
-use Rattle.rules.proofs.Packing.Means.{sound-means}
+use Rattle.packing.specs.Queues.{Queued}
+use Rattle.packing.proofs.Queued.{valid-queued}
 use Rattle.table.specs.Has.{HasCore, HasProcess, HasChannel}
 use Rattle.table.proofs.Has.{has-core, has-process, has-channel}
 use Rattle.parts.specs.Does.{Card, At}
@@ -68,9 +66,21 @@ module _ (t : List ℕ) (cores processes k : ℕ) (card : Card t cores processes
   card-channel c low high =
       has-channel t cores processes c low (let e = cores-are in let f = processes-are in let l = length-is t (card .is-sound) in omega arith)
 
--- a process number in its range
-is-process-range : (s : State) (p : ℕ) → T (is-process (wiring s) p) → (1 ≤ p) × (p ≤ length (s .processes))
-is-process-range s p h = within-means 1 (length (s .processes)) p h
+module _ {t : List ℕ} {cores processes k : ℕ} (card : Card t cores processes k) where
+  -- the core is one of the state's, and the queues are in order
+  pub card-inside : k < length (view t .cores)
+  card-inside = let e = cores-are t cores processes k card in let h = card .inside in omega arith
+
+  pub card-order : Queued (view t)
+  card-order = valid-queued (view t) (view-valid t (card .is-sound))
+
+  -- the work of the core is valid
+  pub work-valid : {w : Work} → core-of (view t) k .work ≡ w → T (valid-work (wiring (view t)) w)
+  work-valid e = subst (λ (w : Work). T (valid-work (wiring (view t)) w)) e (facts t (card .is-sound) .cores k card-inside .work)
+
+  -- the name of a process fits a word
+  pub name-fits : {p : ℕ} → p ≤ length (view t .processes) → p < 2 ^ 31
+  name-fits high = let sizes = facts t (card .is-sound) .sizes in omega arith
 
 -- a channel whose end a process is
 pub own-end-range : (s : State) (way : Way) (p c : ℕ) → T (own-end (wiring s) way p c) → (1 ≤ c) × (c ≤ length (s .channels))
@@ -81,11 +91,7 @@ own-end-range s way p c h =
 module _ (t : List ℕ) (cores processes k p : ℕ) (x : Stage) (at : At t cores processes k p x) where
   -- the running process is one of the state's
   pub runs-range : (1 ≤ p) × (p ≤ length (view t .processes))
-  runs-range =
-      let e = cores-are t cores processes k (at .card) in
-      let h = at .card .inside in
-      let work : T (valid-work (wiring (view t)) (core-of (view t) k .work)) = facts t (at .card .is-sound) .cores k (omega arith) .work in
-      is-process-range (view t) p (subst (λ (w : Work). T (valid-work (wiring (view t)) w)) (at .runs) work)
+  runs-range = within-means 1 (length (view t .processes)) p (work-valid (at .card) (at .runs))
 
   -- its stage is valid
   pub stage-valid : T (valid-stage (wiring (view t)) p x)

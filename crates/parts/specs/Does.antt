@@ -4,7 +4,7 @@ use mathlib.Core.Path.{_≡_}
 use mathlib.Core.List.{List}
 use lib.Dec.{T}
 use Rattle.rules.specs.Numbers.{Answer, yes-with, no-because}
-use Rattle.rules.specs.State.{Way, sending, receiving, Stage, doing, Work, runs}
+use Rattle.rules.specs.State.{Way, sending, receiving, Stage, doing, runs}
 use Rattle.rules.specs.Items.{core-of, process-of}
 use Rattle.rules.specs.Rule.{Rule, Ran, accepted, refused, run}
 use Rattle.rules.specs.Packing.{pack, view, K-of, N-of}

@@ -1,9 +1,9 @@
 // What several steps share: a stage, a task, falling asleep, an outcome due.
 ghost use mathlib.Core.Path.{_≡_};
-ghost use Prim.Native.Nat.{ℕ, _+_, _*_, _-_, _≤_, _<_};
-ghost use lib.ListN.{length, getD, set};
+ghost use Prim.Native.Nat.{_+_, _*_, _-_, _<_};
+ghost use lib.ListN.{getD, set};
 ghost use Rattle.rules.specs.Numbers.{MOVED, SLEPT, yes-with};
-ghost use Rattle.rules.specs.Packing.{core-at, process-at};
+ghost use Rattle.rules.specs.Packing.{process-at};
 ghost use Rattle.answers.specs.Four.{four};
 ghost use Rattle.table.specs.Has.{HasCore, HasProcess};
 ghost use Rattle.parts.specs.Does.{of-way};

@@ -1,3 +1,4 @@
 pub mod Within
 pub mod Fits
 pub mod Laws
+pub mod Joins

@@ -1,6 +1,6 @@
 -- A channel's end and a list of guards: the code's tests are those of the rules.
 use Prim.Native.Nat.{ℕ, zero, suc, _≤_}
-use mathlib.Core.Path.{_≡_, refl, sym, ap, ap₂, _∙_, subst}
+use mathlib.Core.Path.{_≡_, refl, sym, ap, _∙_, subst}
 use mathlib.Core.Bool.{Bool, true, false}
 use mathlib.Core.List.{List}
 use lib.Dec.{T, eqb, lit<}
@@ -12,12 +12,12 @@ use Rattle.rules.specs.State.{Way, sending, receiving, Channel, State, Wiring, 
 use Rattle.rules.specs.Items.{no-channel, channel-of}
 use Rattle.rules.specs.Rule.{Rule, Ran, run, _>>_}
 use Rattle.rules.specs.Requests.{unless, proper-end}
-use Rattle.rules.specs.Packing.{pack, view, word-at, channel-at, M-of}
+use Rattle.rules.specs.Packing.{view, word-at, channel-at, M-of}
 use Rattle.rules.proofs.Tests.{within-means}
-use Rattle.rules.proofs.Packing.ReadLaws.{read-channel}
 use Rattle.answers.specs.declared.Reply.{Reply}
 use Rattle.parts.specs.Does.{Card, Comes}
-use Rattle.parts.proofs.Card.{packed, cores-are, processes-are, M-is}
+use Rattle.parts.proofs.Card.{M-is}
+use Rattle.parts.proofs.Packs.{card-packs, channel-read}
 use Rattle.requests.specs.Asked.{refusal, end-number, end-refusal}
 
 -- What tests of this number n leave of what a rule comes to, x: a refusal of that number, or y where n is 0.
@@ -76,17 +76,11 @@ module _ (t : List ℕ) (cores processes channels k : ℕ) (card : Card t cores 
   end-read : (way : Way) (c : ℕ) → 1 ≤ c → c ≤ length (view t .channels)
       → word-at t (channel-at cores processes c (end-word way)) ≡ end-of (wiring (view t)) way c
   end-read way c low high =
-      ap (λ (u : List ℕ). word-at u (channel-at cores processes c (end-word way))) (packed t (card .is-sound))
-      ∙ ap₂ (λ (n m : ℕ). word-at (pack (view t)) (channel-at n m c (end-word way)))
-      (cores-are t cores processes k card) (processes-are t cores processes k card)
-      ∙ at-way way
-      ∙ sym (end-viewed way c)
+      at-way way ∙ sym (end-viewed way c)
     where
-      at-way : (way : Way)
-          → word-at (pack (view t)) (channel-at (length (view t .cores)) (length (view t .processes)) c (end-word way))
-          ≡ at-end way (channel-of (view t) c .ends)
-      at-way sending = read-channel (view t) c 0 low high (lit< tt)
-      at-way receiving = read-channel (view t) c 1 low high (lit< tt)
+      at-way : (way : Way) → word-at t (channel-at cores processes c (end-word way)) ≡ at-end way (channel-of (view t) c .ends)
+      at-way sending = channel-read (card-packs card) c (low, high) 0 (lit< tt)
+      at-way receiving = channel-read (card-packs card) c (low, high) 1 (lit< tt)
 
   -- the code's test of a channel's end is the rules'
   pub end-same : (way : Way) (p c : ℕ) → end-refusal t cores processes channels p (end-word way) c ≡ end-asked (wiring (view t)) way p c

@@ -1,6 +1,6 @@
 -- The replies and the tables of the code are those of the rules.
 use Prim.Native.Nat.{ℕ, _+_, _*_, _≤_, _<_}
-use mathlib.Core.Path.{_≡_, refl, sym, ap, _∙_, subst, subst₂, ap₂}
+use mathlib.Core.Path.{_≡_, refl, sym, ap, _∙_, subst, subst₂}
 use mathlib.Core.Bool.{Bool, true, false}
 use mathlib.Core.List.{List, []}
 use native.Mathlib.Omega.{arith}
@@ -8,28 +8,29 @@ use lib.ListN.{length, set}
 use borrow.Author.Tests.{le-leb, lt-leb}
 use Rattle.rules.specs.Lists.{within}
 use Rattle.rules.specs.Numbers.{Answer, TAKEN, GUARDS, yes-with}
-use Rattle.rules.specs.State.{Way, sending, receiving, look, enable-look, doing, due, go, State, wiring}
+use Rattle.rules.specs.State.{Way, sending, receiving, look, enable-look, doing, due, go, ended, no-task, State, wiring}
 use Rattle.rules.specs.Items.{data-word, alternation, progress, put}
 use Rattle.rules.specs.Rule.{Rule, Ran, run, done, write, _>>_}
 use Rattle.rules.specs.Requests.{Request, send, receive, choose, yield, end, request, asks, unless, proper-end, proper-guards, choice-begun}
-use Rattle.rules.specs.Packing.{pack, view, process-at, M-of}
+use Rattle.rules.specs.Packing.{view, process-at, M-of}
 use Rattle.packing.specs.Queues.{push-table, Queued}
 use Rattle.packing.proofs.States.{length-set-nth}
-use Rattle.packing.proofs.Queued.{valid-queued, queued-put}
+use Rattle.packing.proofs.Queued.{queued-put}
 use Rattle.answers.specs.Four.{four}
 use Rattle.answers.specs.declared.Reply.{Reply}
 use Rattle.table.specs.Has.{HasCore, HasProcess}
 use Rattle.table.proofs.Has.{has-core, has-process}
 use Rattle.queues.specs.Fits.{CanJoin}
-use Rattle.queues.proofs.Fits.{can-join}
+use Rattle.queues.proofs.Joins.{may-join, joined, joined-inside}
 use Rattle.parts.specs.Does.{Card, Comes, Does}
 use Rattle.parts.specs.Shared.{task-table}
-use Rattle.parts.proofs.Card.{packed, view-valid, facts, length-is, cores-are, processes-are, card-core, card-process}
+use Rattle.parts.proofs.Card.{facts, length-is, cores-are, processes-are, card-core, card-process, card-inside, card-order}
+use Rattle.parts.proofs.Packs.{Packs, IsProcess, card-packs, still-process, progress-kept, place-written, data-written, task-written}
 use Rattle.requests.specs.Asked.{asker, refusal, end-refusal, guards-refusal, look-table, begun-table, enabling-table}
 use Rattle.requests.proofs.Running.{Idle, run-asks, asking}
 use Rattle.requests.proofs.Ends.{Checked, passes, stops, end-word, end-checked, end-same, channels-are}
 use Rattle.requests.proofs.Guards.{same-ends, guards-checked}
-use Rattle.requests.proofs.Written.{look-law, send-law, end-law, due-law, queued-law, choose-law}
+use Rattle.requests.proofs.Written.{begun, looks, goes, enables}
 
 -- what is left of a request once the ends of its channels are proper
 abbrev send-rest : (p c v : ℕ) → Rule Answer
@@ -83,13 +84,13 @@ module _ {t : List ℕ} {cores processes k p : ℕ} (asked : Asked t cores proce
   is-idle : Idle (view t) k p
   is-idle = asking t cores processes k card p (asked .found .number) .1 (asked .some)
 
-  inside : k < length (view t .cores)
-  inside = let a = cores-are t cores processes k card in let b = card .inside in omega arith
+  packs : Packs t cores processes (view t)
+  packs = card-packs card
 
   -- the words of the process are in the table, and in any that is as long
   pub asked-process : (u : List ℕ) → length u ≡ length t → HasProcess u cores p
   asked-process u e =
-      let has = card-process t cores processes k card p (is-idle .low) (is-idle .high) in
+      let has = card-process t cores processes k card p (is-idle .is .0) (is-idle .is .1) in
       has-process u cores p (has .from-one) (rw e (has .word-23))
 
   -- what the rule comes to when the process is asked
@@ -97,18 +98,14 @@ module _ {t : List ℕ} {cores processes k p : ℕ} (asked : Asked t cores proce
       → Comes (run (asks (wiring (view t)) k p x) (view t)) t r u → Meets t k x r u
   asks-does x r u h = subst (λ (z : Ran Answer). Comes z t r u) (sym (run-asks (view t) (wiring (view t)) x k p is-idle)) h
 
-  -- a table that is written from t is written from a packing
-  on-packing : (f : List ℕ → ℕ → List ℕ) → f t cores ≡ f (pack (view t)) (length (view t .cores))
-  on-packing f = ap₂ f (packed t (card .is-sound)) (cores-are t cores processes k card)
-
   -- End
   pub end-does : {r : Reply} {m u : List ℕ} → r ≡ four (yes-with (TAKEN p 0)) → m ≡ set t (process-at cores p 0) 4 → u ≡ task-table m k 0 0
       → Meets t k end r u
   end-does {r} {m} {u} e e′ e″ =
       asks-does end r u (
         e,
-        e″ ∙ ap (λ (m : List ℕ). task-table m k 0 0) e′ ∙ on-packing (λ u n. task-table (set u (process-at n p 0) 4) k 0 0)
-            ∙ end-law (view t) k p inside (is-idle .low) (is-idle .high),
+        e″ ∙ ap (λ (m : List ℕ). task-table m k 0 0) e′
+            ∙ task-written (place-written packs p (is-idle .is) ended) k (card-inside card) no-task 0 0 refl .is-pack,
       )
 
   -- Yield
@@ -117,27 +114,26 @@ module _ {t : List ℕ} {cores processes k p : ℕ} (asked : Asked t cores proce
     yielding : State
     yielding = put progress p (due go) (view t)
 
-    high′ : p ≤ length (yielding .processes)
+    yields : Packs m cores processes yielding
     unfolding yielding
-    high′ = rw length-set-nth (is-idle .high)
+    yields = rw stored (goes packs p (is-idle .is) (is-idle .progress))
+
+    is-yielding : IsProcess yielding p
+    unfolding yielding
+    is-yielding = still-process (view t) p p _ (is-idle .is)
 
     order : Queued yielding
     unfolding yielding
-    order = queued-put progress p (due go) (view t) tt (valid-queued (view t) (view-valid t (card .is-sound)))
+    order = queued-put progress p (due go) (view t) tt (card-order card)
 
-    stored-packing : m ≡ pack yielding
+    inside : k < length (yielding .cores)
     unfolding yielding
-    stored-packing =
-        stored ∙ on-packing (λ u n. set u (process-at n p 6) 20)
-        ∙ due-law (view t) p (is-idle .low) (is-idle .high) (is-idle .progress)
+    inside = card-inside card
 
     -- what it needs to be queued
     pub yield-joins : CanJoin m cores k p
     unfolding yielding
-    yield-joins =
-        let few : length (yielding .processes) ≤ 256 = rw length-set-nth (facts t (card .is-sound) .sizes .processes .1) in
-        subst₂ (λ (u : List ℕ) (n : ℕ). CanJoin u n k p) (sym stored-packing) (sym (cores-are t cores processes k card))
-        (can-join yielding k inside order few p (is-idle .low) high′)
+    yield-joins = may-join yields k inside order p is-yielding (rw length-set-nth (facts t (card .is-sound) .sizes .processes .1))
 
     pub yield-does : {r : Reply} {j u : List ℕ} → r ≡ four (yes-with (TAKEN p 0)) → j ≡ push-table (set m (process-at cores p 0) 2) cores k p
         → u ≡ task-table j k 0 0 → Meets t k yield r u
@@ -146,9 +142,7 @@ module _ {t : List ℕ} {cores processes k p : ℕ} (asked : Asked t cores proce
         asks-does yield r u (
           e,
           e″ ∙ ap (λ (j : List ℕ). task-table j k 0 0) e′
-              ∙ ap₂ (λ (m : List ℕ) (n : ℕ). task-table (push-table (set m (process-at n p 0) 2) n k p) k 0 0)
-              stored-packing (cores-are t cores processes k card)
-              ∙ queued-law yielding k p inside order (is-idle .low) high′,
+              ∙ task-written (joined yields k inside order p is-yielding) k (joined-inside yields k inside order p is-yielding) no-task 0 0 refl .is-pack,
         )
 
   module _ (channels : ℕ) (all-channels : channels ≡ M-of t) where
@@ -176,8 +170,9 @@ module _ {t : List ℕ} {cores processes k p : ℕ} (asked : Asked t cores proce
       send-does good {r} {m} {u} e e′ e″ =
           passes t n _ _ send-tested good r u (
             e,
-            e″ ∙ ap (λ (m : List ℕ). look-table m cores p 1 c) e′ ∙ on-packing (λ u n. look-table (set u (process-at n p 1) v) n p 1 c)
-                ∙ send-law (view t) p (is-idle .low) (is-idle .high) (is-idle .progress) c v,
+            e″ ∙ ap (λ (m : List ℕ). look-table m cores p 1 c) e′
+                ∙ looks (data-written packs p (is-idle .is) v) p (still-process (view t) p p _ (is-idle .is))
+                (progress-kept data-word tt p v (view t) p ∙ is-idle .progress) sending c .is-pack,
           )
 
     -- Receive
@@ -193,7 +188,7 @@ module _ {t : List ℕ} {cores processes k p : ℕ} (asked : Asked t cores proce
       receive-does good {r} {u} e e′ =
           passes t n _ _ receive-tested good r u (
             e,
-            e′ ∙ on-packing (λ u n. look-table u n p 6 c) ∙ look-law (view t) p (is-idle .low) (is-idle .high) (is-idle .progress) receiving c,
+            e′ ∙ looks packs p (is-idle .is) (is-idle .progress) receiving c .is-pack,
           )
 
     -- Choose
@@ -232,6 +227,6 @@ module _ {t : List ℕ} {cores processes k p : ℕ} (asked : Asked t cores proce
             passes t n _ _ choose-tested good r u (
               e,
               e″ ∙ ap (λ (m : List ℕ). enabling-table m cores p guards) e′
-                  ∙ on-packing (λ u n. enabling-table (begun-table u n p) n p guards)
-                  ∙ choose-law (view t) p (is-idle .low) (is-idle .high) (is-idle .progress) guards few,
+                  ∙ enables (begun packs p (is-idle .is)) p (still-process (view t) p p _ (is-idle .is))
+                  (progress-kept alternation tt p choice-begun (view t) p ∙ is-idle .progress) guards few .is-pack,
             )

@@ -1,34 +1,31 @@
 -- The process that runs on a core of a sound table, and whether it has anything in hand.
-use Prim.Native.Nat.{ℕ, zero, suc, _≤_}
+use Prim.Native.Nat.{ℕ, _<_}
 use mathlib.Core.Path.{_≡_, refl, sym, ap, _∙_, subst}
 use mathlib.Core.Bool.{Bool, true, false}
 use mathlib.Core.List.{List, [], _∷_}
 use native.Mathlib.Omega.{arith}
-use native.Mathlib.Nat.{zero-add}
-use lib.Dec.{T, eqb, lit<}
+use lib.Dec.{eqb, lit<}
 use lib.ListN.{length, getD}
 use borrow.Author.Tests.{eqb-true, eqb-false, eq-eqb, ne-eqb}
 use Rattle.rules.specs.Lists.{if_then_else_}
 use Rattle.rules.specs.Numbers.{Answer, BUSY}
-use Rattle.rules.specs.State.{Progress, nothing, doing, due, Task, no-task, trigger, wake-up, Process, Work, runs, free, Core, State, Wiring, wiring}
-use Rattle.rules.specs.Items.{no-core, no-process, core-of, process-of}
+use Rattle.rules.specs.State.{Progress, nothing, doing, due, Task, no-task, trigger, wake-up, Work, runs, free, State, Wiring}
+use Rattle.rules.specs.Items.{core-of, process-of}
 use Rattle.rules.specs.Rule.{Ran, run, refused, _>>=_}
 use Rattle.rules.specs.Requests.{Request, request, requester, in-hand, asks}
-use Rattle.rules.specs.Packing.{view, view-core, view-process, progress-from, progress-words, word-at, core-word, process-word, process-at, K-of, N-of}
-use Rattle.rules.specs.Soundness.{valid-work}
-use Rattle.rules.proofs.Tabulate.{tabulate-at}
+use Rattle.rules.specs.Packing.{view, work-from, progress-from, progress-words, word-at, core-word, process-word, process-at}
 use Rattle.rules.proofs.Tests.{within-means}
-use Rattle.rules.proofs.Packing.ReadLaws.{read-progress}
 use Rattle.parts.specs.Does.{Card}
-use Rattle.parts.proofs.Card.{packed, facts, cores-are, card-core, card-process, N-is}
+use Rattle.parts.proofs.Card.{card-core, card-process, work-valid, N-is}
+use Rattle.parts.proofs.Seen.{work-seen, progress-seen}
+use Rattle.parts.proofs.Packs.{IsProcess, card-packs, progress-read}
 use Rattle.requests.specs.Asked.{HasRunning, asker}
 
 -- on core k the process p runs, with nothing in hand
 pub record Idle (s : State) (k p : ℕ) : Type 0 where
   pub work : core-of s k .work ≡ runs p
   pub progress : process-of s p .progress ≡ nothing
-  pub low : 1 ≤ p
-  pub high : p ≤ length (s .processes)
+  pub is : IsProcess s p
 
 -- what a request comes to, from the core's work and from the running process's progress
 module _ (s : State) (w : Wiring) (x : Request) (k : ℕ) where
@@ -63,52 +60,33 @@ abbrev task-of : List ℕ → ℕ → Task
 task-of t k = getD (no-task ∷ trigger (core-word t k 2) ∷ wake-up (core-word t k 2) ∷ []) (core-word t k 1) no-task
 
 module _ (t : List ℕ) (cores processes k : ℕ) (card : Card t cores processes k) where
-  core-viewed : core-of (view t) k ≡ view-core t k
-  unfolding view
-  core-viewed =
-      let e = card .all-cores in
-      let h = card .inside in
-      tabulate-at (view-core t) 0 (K-of t) no-core k (omega arith) ∙ ap (view-core t) (zero-add k)
-
-  process-viewed : (p : ℕ) → 1 ≤ p → p ≤ N-of t → process-of (view t) p ≡ view-process t p
-  unfolding view
-  process-viewed zero low high = absurd (omega arith)
-  process-viewed (suc i) low high = tabulate-at (view-process t) 1 (N-of t) no-process i (omega arith) ∙ ap (view-process t) (omega arith)
-
   -- what the core does
+  work-viewed : core-of (view t) k .work ≡ work-from (core-word t k 0) (core-word t k 1) (core-word t k 2)
+  work-viewed = work-seen t k (subst (λ (n : ℕ). k < n) (card .all-cores) (card .inside))
+
   work-free : runner t k ≡ 0 → core-of (view t) k .work ≡ free (task-of t k)
-  unfolding view-core
-  work-free e = ap (λ (c : Core). c .work) core-viewed ∙ rw (eq-eqb (runner t k) 0 e)
+  work-free e = work-viewed ∙ rw (eq-eqb (runner t k) 0 e)
 
   work-runs : (runner t k ≡ 0 → ⊥) → core-of (view t) k .work ≡ runs (runner t k)
-  unfolding view-core
-  work-runs e = ap (λ (c : Core). c .work) core-viewed ∙ rw (ne-eqb (runner t k) 0 e)
+  work-runs e = work-viewed ∙ rw (ne-eqb (runner t k) 0 e)
 
   -- the running process is one of the state's
-  running-range : (p : ℕ) → core-of (view t) k .work ≡ runs p → (1 ≤ p) × (p ≤ length (view t .processes))
-  running-range p e =
-      let a = cores-are t cores processes k card in
-      let b = card .inside in
-      let work : T (valid-work (wiring (view t)) (core-of (view t) k .work)) = facts t (card .is-sound) .cores k (omega arith) .work in
-      within-means 1 (length (view t .processes)) p (subst (λ (y : Work). T (valid-work (wiring (view t)) y)) e work)
+  running-range : (p : ℕ) → core-of (view t) k .work ≡ runs p → IsProcess (view t) p
+  running-range p e = within-means 1 (length (view t .processes)) p (work-valid card e)
 
   -- whether a process has anything in hand
-  progress-none : (p : ℕ) → 1 ≤ p → p ≤ length (view t .processes) → word-at t (process-at cores p 6) ≡ 0
-      → process-of (view t) p .progress ≡ nothing
-  unfolding view-process progress-from
-  progress-none p low high e =
+  progress-none : (p : ℕ) → IsProcess (view t) p → word-at t (process-at cores p 6) ≡ 0 → process-of (view t) p .progress ≡ nothing
+  unfolding progress-from
+  progress-none p is e =
       let n = N-is t (card .is-sound) in
+      let high = is .1 in
       let same : process-word t p 6 ≡ 0 = ap (λ (m : ℕ). word-at t (process-at m p 6)) (sym (card .all-cores)) ∙ e in
-      ap (λ (r : Process). r .progress) (process-viewed p low (omega arith)) ∙ rw same
+      progress-seen t p (is .0) (omega arith) ∙ rw same
 
-  progress-some : (p : ℕ) → 1 ≤ p → p ≤ length (view t .processes) → (word-at t (process-at cores p 6) ≡ 0 → ⊥)
-      → process-of (view t) p .progress ≡ nothing → ⊥
+  progress-some : (p : ℕ) → IsProcess (view t) p → (word-at t (process-at cores p 6) ≡ 0 → ⊥) → process-of (view t) p .progress ≡ nothing → ⊥
   unfolding progress-words
-  progress-some p low high e idle =
-      e (ap (λ (m : ℕ). word-at t (process-at m p 6)) (cores-are t cores processes k card)
-      ∙ ap (λ (u : List ℕ). word-at u (process-at (length (view t .cores)) p 6)) (packed t (card .is-sound))
-      ∙ read-progress (view t) p low high 0 (lit< tt)
-      ∙ ap (λ (y : Progress). getD (progress-words y) 0 0) idle)
+  progress-some p is e idle =
+      e (progress-read (card-packs card) p is 0 (lit< tt) ∙ ap (λ (y : Progress). getD (progress-words y) 0 0) idle)
 
   -- the words that the code reads are there
   pub has-running : HasRunning t cores k
@@ -137,13 +115,13 @@ module _ (t : List ℕ) (cores processes k : ℕ) (card : Card t cores processes
       cases false true f g e =
           let work = work-runs (eqb-false q 0 f) in
           let range = running-range q work in
-          let progress = progress-none q (range .0) (range .1) (eqb-true in-hand 0 g) in (
+          let progress = progress-none q range (eqb-true in-hand 0 g) in (
             λ z w x. absurd (eqb-false q 0 f (sym e ∙ z)),
-            λ some. rw e (record { work = work; progress = progress; low = range .0; high = range .1 }),
+            λ some. rw e (record { work = work; progress = progress; is = range }),
           )
       cases false false f g e =
           let work = work-runs (eqb-false q 0 f) in
           let range = running-range q work in (
-            λ z w x. refused-busy (view t) w x k q work (progress-some q (range .0) (range .1) (eqb-false in-hand 0 g)),
+            λ z w x. refused-busy (view t) w x k q work (progress-some q range (eqb-false in-hand 0 g)),
             λ some. absurd (some e),
           )

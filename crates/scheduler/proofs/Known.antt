@@ -1,6 +1,6 @@
 -- What is known of a core with nothing running.
 use Prim.Native.Nat.{ℕ, _≤_, _<_}
-use mathlib.Core.Path.{_≡_, refl, sym, ap, _∙_}
+use mathlib.Core.Path.{_≡_, sym, ap}
 use mathlib.Core.List.{List, [], _∷_}
 use native.Mathlib.Omega.{arith}
 use lib.ListN.{length, getD}
@@ -9,11 +9,10 @@ use Rattle.rules.specs.State.{Task}
 use Rattle.rules.specs.Items.{core-of}
 use Rattle.rules.specs.Packing.{view, word-at, core-at}
 use Rattle.packing.specs.Queues.{Queued}
-use Rattle.rules.proofs.Packing.ReadLaws.{core-list, read-core}
-use Rattle.packing.proofs.Queued.{valid-queued}
+use Rattle.rules.proofs.Packing.ReadLaws.{core-list}
 use Rattle.table.specs.Has.{HasCore}
-use Rattle.parts.proofs.Card.{view-valid, cores-are, card-core}
-use Rattle.parts.proofs.Packs.{Packs, card-packs}
+use Rattle.parts.proofs.Card.{card-inside, card-order, card-core}
+use Rattle.parts.proofs.Packs.{Packs, card-packs, core-read}
 use Rattle.scheduler.specs.Free.{Free}
 
 -- a list with a first number begins with it
@@ -23,17 +22,17 @@ begins (x ∷ rest) p e h = (rest, ap (λ (q : ℕ). q ∷ rest) (sym e))
 
 module _ {t : List ℕ} {cores processes k : ℕ} {x : Task} (free : Free t cores processes k x) where
   pub free-packs : Packs t cores processes (view t)
-  free-packs = card-packs t cores processes k (free .card)
+  free-packs = card-packs (free .card)
 
   pub free-inside : k < length (view t .cores)
-  free-inside = let e = cores-are t cores processes k (free .card) in let h = free .card .inside in omega arith
+  free-inside = card-inside (free .card)
 
   pub free-order : Queued (view t)
-  free-order = valid-queued (view t) (view-valid t (free .card .is-sound))
+  free-order = card-order (free .card)
 
   -- a word of the core
   pub free-read : (f : ℕ) → f < 16 → word-at t (core-at k f) ≡ getD (core-list (core-of (view t) k)) f 0
-  free-read f h = ap (λ (u : List ℕ). word-at u (core-at k f)) (free-packs .is-pack) ∙ read-core (view t) k f free-inside h
+  free-read = core-read free-packs k free-inside
 
   -- the words of the core are there
   pub free-core : HasCore t k

@@ -1,7 +1,6 @@
 -- Load, and nothing to do: what they come to.
-use Prim.Native.Nat.{ℕ, zero, suc, _*_, _≤_, _<_, min}
-use mathlib.Core.Path.{_≡_, refl, sym, ap, _∙_, subst, subst₂}
-use mathlib.Core.Bool.{Bool, _&&_}
+use Prim.Native.Nat.{ℕ, _*_, _≤_, _<_, min}
+use mathlib.Core.Path.{_≡_, refl, sym, ap, _∙_, subst}
 use mathlib.Core.List.{List, [], _∷_}
 use native.Mathlib.Omega.{arith}
 use lib.Dec.{T, lit<, eqb}
@@ -11,18 +10,17 @@ use Rattle.rules.specs.Lists.{bit, first, within, all}
 use Rattle.rules.specs.Numbers.{MOVED, IDLE, yes-with}
 use Rattle.rules.specs.State.{Core, no-task}
 use Rattle.rules.specs.Items.{core-of, core, put, no-core}
-use Rattle.rules.specs.Rule.{run}
 use Rattle.rules.specs.Scheduler.{step}
 use Rattle.rules.specs.Packing.{pack, view, heads, word-at, core-at}
 use Rattle.rules.specs.Soundness.{not-empty}
-use Rattle.packing.specs.Queues.{load-table, with-queues, Queued}
+use Rattle.packing.specs.Queues.{load-table, with-queues}
 use Rattle.rules.proofs.Tests.{both, within-means}
-use Rattle.rules.proofs.Packing.ReadLaws.{core-list, read-core}
+use Rattle.rules.proofs.Packing.ReadLaws.{read-core}
 use Rattle.packing.proofs.Load.{load-law}
 use Rattle.answers.specs.Four.{four}
 use Rattle.answers.specs.declared.Reply.{Reply}
 use Rattle.parts.specs.Does.{Comes, Does}
-use Rattle.parts.proofs.Packs.{Packs}
+use Rattle.parts.proofs.Packs.{on-pack, as-packed}
 use Rattle.queues.specs.Fits.{CanLoad}
 use Rattle.queues.proofs.Fits.{can-load}
 use Rattle.queues.proofs.Laws.{load-step-law}
@@ -74,15 +72,9 @@ module _ {t : List ℕ} {cores processes k : ℕ} (pre : Loads t cores processes
 
   pub can-load-head : CanLoad t cores k (word-at t (core-at k 8))
   can-load-head =
-      let packs = free-packs (pre .free) in
-      subst₂ (λ (u : List ℕ) (n : ℕ). CanLoad u n k (word-at t (core-at k 8))) (sym (packs .is-pack)) (sym (packs .all-cores))
+      on-pack (free-packs (pre .free)) (λ u n. CanLoad u n k (word-at t (core-at k 8)))
       (subst (CanLoad (pack (view t)) (length (view t .cores)) k) (sym (batches .3))
       (can-load (view t) k (free-inside (pre .free)) (free-order (pre .free)) (batches .0) (batches .1) (batches .2)))
-
-  as-packed : (f : List ℕ → ℕ → List ℕ) {v : List ℕ} → f (pack (view t)) (length (view t .cores)) ≡ v → f t cores ≡ v
-  as-packed f {v} e =
-      let packs = free-packs (pre .free) in
-      subst₂ (λ (u : List ℕ) (n : ℕ). f u n ≡ v) (sym (packs .is-pack)) (sym (packs .all-cores)) e
 
   -- the size that is read once the batch is active
   pub size-is : {size : ℕ} {u : List ℕ} → u ≡ load-table t cores k → size ≡ word-at u (core-at k 5) → size ≡ length (batches .0)
@@ -90,7 +82,7 @@ module _ {t : List ℕ} {cores processes k : ℕ} (pre : Loads t cores processes
       let c = with-queues (batches .0) (batches .1) (core-of (view t) k) in
       let inside = free-inside (pre .free) in
       let after : u ≡ pack (put core k c (view t)) =
-      wrote ∙ as-packed (λ t n. load-table t n k)
+      wrote ∙ as-packed (free-packs (pre .free)) (λ u n. load-table u n k)
       (load-law (view t) k (batches .0) (batches .1) inside (free-order (pre .free)) (is-empty (pre .free) (pre .empty)) (batches .2)) in
       read ∙ ap (λ (u : List ℕ). word-at u (core-at k 5)) after
       ∙ read-core (put core k c (view t)) k 5 (subst (λ (n : ℕ). k < n) (sym (length-set (view t .cores) k c)) inside) (lit< tt)
@@ -103,7 +95,7 @@ module _ {t : List ℕ} {cores processes k : ℕ} (pre : Loads t cores processes
       subst (λ x. Comes x t r u) (sym (idle.loads (view t) k (pre .free .work) (batches .0) (batches .1) empty (batches .2))) (
         reply,
         wrote ∙ (λ i. loaded-table t cores k (count i) (mark i))
-            ∙ as-packed (λ t n. loaded-table t n k (min 32 (4 * length (batches .0))) (bit (eqb (length (batches .0)) 1)))
+            ∙ as-packed (free-packs (pre .free)) (λ u n. loaded-table u n k (min 32 (4 * length (batches .0))) (bit (eqb (length (batches .0)) 1)))
             (load-step-law (view t) k (free-inside (pre .free)) (free-order (pre .free)) _ _ (batches .0) (batches .1) empty (batches .2)),
       )
 

@@ -1,38 +1,27 @@
 -- Store, whole or split, and load: what their writes come to.
-use Prim.Native.Nat.{ℕ, zero, suc, _*_, _≤_, _<_, min}
-use mathlib.Core.Path.{_≡_, refl, sym, ap, _∙_, subst, subst₂}
-use mathlib.Core.Bool.{Bool, true, false}
+use Prim.Native.Nat.{ℕ}
+use mathlib.Core.Path.{_≡_, sym, ap, _∙_, subst}
 use mathlib.Core.List.{List, [], _∷_}
 use mathlib.Core.Logic.{_⊎_, inl, inr}
 use native.Mathlib.Omega.{arith}
-use lib.Dec.{lit<, eqb}
+use lib.Dec.{lit<}
 use lib.ListN.{length}
-use Rattle.rules.specs.Lists.{bit, first}
 use Rattle.rules.specs.Numbers.{MOVED, yes-with}
 use Rattle.rules.specs.Items.{core-of, core, put}
-use Rattle.rules.specs.Rule.{run}
 use Rattle.rules.specs.Scheduler.{step}
-use Rattle.rules.specs.Packing.{pack, view, heads, word-at, core-at}
+use Rattle.rules.specs.Packing.{pack, view, word-at, core-at}
 use Rattle.packing.specs.Queues.{store-table, split-table}
 use Rattle.answers.specs.Four.{four}
 use Rattle.answers.specs.declared.Reply.{Reply}
 use Rattle.parts.specs.Does.{Comes, Does}
-use Rattle.parts.proofs.Packs.{Packs}
-use Rattle.queues.specs.Fits.{CanStore, CanSplit, CanLoad}
-use Rattle.queues.proofs.Fits.{can-store, can-split, can-load}
-use Rattle.queues.proofs.Laws.{stores, store-marked-law, store-single-law, split-step-law, load-step-law}
-use Rattle.scheduler.specs.Free.{Free, Stores, Loads, loaded-table}
+use Rattle.parts.proofs.Packs.{on-pack, as-packed}
+use Rattle.parts.proofs.Flags.{set-flag, unset-flag}
+use Rattle.queues.specs.Fits.{CanStore, CanSplit}
+use Rattle.queues.proofs.Fits.{can-store, can-split}
+use Rattle.queues.proofs.Laws.{stores, store-marked-law, store-single-law, split-step-law}
+use Rattle.scheduler.specs.Free.{Stores}
 use Rattle.scheduler.proofs.Idle as idle
 use Rattle.scheduler.proofs.Known.{free-packs, free-inside, free-order, free-read, begins}
-
--- a bit that is set, and one that isn't
-set-bit : (b : Bool) → bit b ≡ 1 → b ≡ true
-set-bit true e = refl
-set-bit false e = absurd (omega arith)
-
-clear-bit : (b : Bool) → (bit b ≡ 1 → ⊥) → b ≡ false
-clear-bit true h = absurd (h refl)
-clear-bit false h = refl
 
 -- a queue of one, and one of more
 alone : (l : List ℕ) (p : ℕ) (rest : List ℕ) → l ≡ p ∷ rest → length l ≡ 1 → l ≡ p ∷ []
@@ -53,8 +42,7 @@ module _ {t : List ℕ} {cores processes k : ℕ} (pre : Stores t cores processe
 
   pub can-store-head : CanStore t cores k (word-at t (core-at k 3))
   can-store-head =
-      let packs = free-packs (pre .free) in
-      subst₂ (λ (u : List ℕ) (n : ℕ). CanStore u n k (word-at t (core-at k 3))) (sym (packs .is-pack)) (sym (packs .all-cores))
+      on-pack (free-packs (pre .free)) (λ u n. CanStore u n k (word-at t (core-at k 3)))
       (can-store (view t) k (free-inside (pre .free)) (free-order (pre .free)) _ (queue .0) (queue .1))
 
   pub can-store-first : {p : ℕ} → p ≡ word-at t (core-at k 3) → CanStore t cores k p
@@ -65,24 +53,19 @@ module _ {t : List ℕ} {cores processes k : ℕ} (pre : Stores t cores processe
       → u ≡ pack (put core k (stores p rest (core-of (view t) k)) (view t)) → Does (step k) t r u
   comes p rest e {r} u reply wrote = subst (λ x. Comes x t r u) (sym (idle.stores (view t) k (pre .free .work) p rest none e)) (reply, wrote)
 
-  -- a table that is written as the packing would be
-  as-packed : (f : List ℕ → ℕ → List ℕ) {v : List ℕ} → f (pack (view t)) (length (view t .cores)) ≡ v → f t cores ≡ v
-  as-packed f {v} e =
-      let packs = free-packs (pre .free) in
-      subst₂ (λ (u : List ℕ) (n : ℕ). f u n ≡ v) (sym (packs .is-pack)) (sym (packs .all-cores)) e
-
   -- with the mark set, or one process only
   pub store-does : {mark size : ℕ} {r : Reply} {u : List ℕ} → mark ≡ word-at t (core-at k 7) → size ≡ word-at t (core-at k 5)
       → (mark ≡ 1) ⊎ (size ≡ 1) → r ≡ four (yes-with MOVED) → u ≡ store-table t cores k → Does (step k) t r u
   store-does {u = u} mark-is size-is (inl marked) reply wrote =
-      let true-mark = set-bit (core-of (view t) k .mark) (sym (free-read (pre .free) 7 (lit< tt)) ∙ sym mark-is ∙ marked) in
+      let read = free-read (pre .free) 7 (lit< tt) in
+      let true-mark = set-flag (core-of (view t) k .mark) (λ e. omega arith) in
       comes _ (queue .0) (queue .1) u reply
-      (wrote ∙ as-packed (λ t n. store-table t n k)
+      (wrote ∙ as-packed (free-packs (pre .free)) (λ u n. store-table u n k)
       (store-marked-law (view t) k (free-inside (pre .free)) (free-order (pre .free)) _ (queue .0) (queue .1) true-mark))
   store-does {u = u} mark-is size-is (inr single) reply wrote =
       let one = alone (core-of (view t) k .active) _ (queue .0) (queue .1) (sym (free-read (pre .free) 5 (lit< tt)) ∙ sym size-is ∙ single) in
       comes _ [] one u reply
-      (wrote ∙ as-packed (λ t n. store-table t n k) (store-single-law (view t) k (free-inside (pre .free)) (free-order (pre .free)) _ one))
+      (wrote ∙ as-packed (free-packs (pre .free)) (λ u n. store-table u n k) (store-single-law (view t) k (free-inside (pre .free)) (free-order (pre .free)) _ one))
 
   -- otherwise
   module _ {mark size : ℕ} (mark-is : mark ≡ word-at t (core-at k 7)) (size-is : size ≡ word-at t (core-at k 5))
@@ -92,8 +75,7 @@ module _ {t : List ℕ} {cores processes k : ℕ} (pre : Stores t cores processe
 
     pub can-split-head : CanSplit t cores k (word-at t (core-at k 3))
     can-split-head =
-        let packs = free-packs (pre .free) in
-        subst₂ (λ (u : List ℕ) (n : ℕ). CanSplit u n k (word-at t (core-at k 3))) (sym (packs .is-pack)) (sym (packs .all-cores))
+        on-pack (free-packs (pre .free)) (λ u n. CanSplit u n k (word-at t (core-at k 3)))
         (can-split (view t) k (free-inside (pre .free)) (free-order (pre .free)) _ (two .0) (two .1) (two .2))
 
     pub can-split-first : {p : ℕ} → p ≡ word-at t (core-at k 3) → CanSplit t cores k p
@@ -101,7 +83,7 @@ module _ {t : List ℕ} {cores processes k : ℕ} (pre : Stores t cores processe
 
     pub split-does : {r : Reply} {u : List ℕ} → r ≡ four (yes-with MOVED) → u ≡ split-table t cores k → Does (step k) t r u
     split-does {u = u} reply wrote =
-        let no-mark = clear-bit (core-of (view t) k .mark) (λ e. unmarked (mark-is ∙ free-read (pre .free) 7 (lit< tt) ∙ e)) in
+        let no-mark = unset-flag (core-of (view t) k .mark) (λ e. unmarked (mark-is ∙ free-read (pre .free) 7 (lit< tt) ∙ e)) in
         comes _ (two .0 ∷ two .1) (two .2) u reply
-        (wrote ∙ as-packed (λ t n. split-table t n k)
+        (wrote ∙ as-packed (free-packs (pre .free)) (λ u n. split-table u n k)
         (split-step-law (view t) k (free-inside (pre .free)) (free-order (pre .free)) _ (two .0) (two .1) (two .2) no-mark))

@@ -1,63 +1,29 @@
 -- Take: the head of the active queue runs, and answers its outcome or MOVED.
-use Prim.Native.Nat.{ℕ, zero, suc, _+_, _-_, _≤_, _<_}
+use Prim.Native.Nat.{ℕ, suc, _+_, _-_, _≤_, _<_}
 use mathlib.Core.Path.{_≡_, refl, sym, ap, _∙_, subst, subst₂}
-use mathlib.Core.List.{List, [], _∷_}
+use mathlib.Core.List.{List, _∷_}
 use native.Mathlib.Omega.{arith}
-use lib.Dec.{T, lit≤, lit<}
-use lib.ListN.{length, getD, set, length-set}
+use lib.Dec.{lit≤, lit<}
+use lib.ListN.{getD, length-set}
 use Rattle.rules.specs.Numbers.{MOVED, GOT, yes-with}
-use Rattle.rules.specs.State.{
-  running,
-  sending,
-  receiving,
-  Stage,
-  look,
-  park,
-  copy,
-  clear,
-  wake,
-  enable-look,
-  raise,
-  place-name,
-  ready-from-look,
-  ready-from-place,
-  wait,
-  disable,
-  lower,
-  finish,
-  Outcome,
-  go,
-  sent,
-  got,
-  chose,
-  Progress,
-  nothing,
-  doing,
-  due,
-  Task,
-  State,
-}
+use Rattle.rules.specs.State.{running, sending, receiving, Stage, look, park, copy, clear, wake, enable-look, raise, place-name, ready-from-look, ready-from-place, wait, disable, lower, finish, Outcome, go, sent, got, chose, Progress, nothing, doing, due, State}
 use Rattle.rules.specs.Items.{core-of, process-of, core, place, put}
 use Rattle.rules.specs.Rule.{run}
 use Rattle.rules.specs.Scheduler.{taken, step}
-use Rattle.rules.specs.Packing.{pack, view, word-at, core-at, process-at, progress-words}
-use Rattle.packing.specs.Queues.{Queued}
+use Rattle.rules.specs.Packing.{view, word-at, core-at, process-at, progress-words}
 use Rattle.packing.proofs.States.{length-set-nth}
-use Rattle.rules.proofs.Packing.ReadLaws.{core-list, read-core, read-progress}
-use Rattle.packing.proofs.Queued.{valid-queued}
 use Rattle.packing.proofs.Links.{Stands}
 use Rattle.packing.proofs.Standing.{first-stands}
 use Rattle.answers.specs.Four.{four}
 use Rattle.answers.specs.declared.Reply.{Reply}
 use Rattle.parts.specs.Does.{Comes, Does}
 use Rattle.parts.specs.Shared.{cleared, reported}
-use Rattle.parts.proofs.Card.{view-valid, cores-are}
-use Rattle.parts.proofs.Packs.{Packs, card-packs, data-read, cleared-written}
+use Rattle.parts.proofs.Packs.{Packs, IsProcess, on-pack, as-packed, still, still-process, process-read, progress-read, progress-cleared}
 use Rattle.table.specs.Has.{HasProcess}
 use Rattle.queues.specs.Fits.{CanTake}
 use Rattle.queues.proofs.Fits.{can-take}
 use Rattle.queues.proofs.Laws.{takes, take-step-law}
-use Rattle.scheduler.specs.Free.{Free, Takes, taken-table}
+use Rattle.scheduler.specs.Free.{Takes, taken-table}
 use Rattle.scheduler.proofs.Idle as idle
 use Rattle.scheduler.proofs.Known.{free-packs, free-inside, free-order, free-read, begins}
 
@@ -100,18 +66,18 @@ module _ {u : List ℕ} {cores processes : ℕ} {s : State} (packs : Packs u cor
   goes-on (due o) h = absurd (omega (arith, outcome-number o))
 
   -- or it answers its outcome
-  pub answers-outcome : (low : 1 ≤ p) (high : p ≤ length (s .processes)) (x : Progress) → 20 ≤ getD (progress-words x) 0 0
+  pub answers-outcome : IsProcess s p → (x : Progress) → 20 ≤ getD (progress-words x) 0 0
       → Comes (run (taken p x) s) t
       (four (yes-with (reported (getD (progress-words x) 0 0) p (getD (progress-words x) 1 0) (getD u (process-at cores p 1) 0))))
       (cleared u cores p)
   unfolding progress-words
-  answers-outcome low high nothing h = absurd (omega arith)
-  answers-outcome low high (doing x) h = absurd (omega (arith, stage-number x))
-  answers-outcome low high (due go) h = (refl, cleared-written packs p low high .is-pack)
-  answers-outcome low high (due (sent c)) h = (refl, cleared-written packs p low high .is-pack)
-  answers-outcome low high (due (got c)) h =
-      (ap (λ (v : ℕ). four (yes-with (GOT p c v))) (data-read packs p low high), cleared-written packs p low high .is-pack)
-  answers-outcome low high (due (chose c)) h = (refl, cleared-written packs p low high .is-pack)
+  answers-outcome is nothing h = absurd (omega arith)
+  answers-outcome is (doing x) h = absurd (omega (arith, stage-number x))
+  answers-outcome is (due go) h = (refl, progress-cleared packs p is .is-pack)
+  answers-outcome is (due (sent c)) h = (refl, progress-cleared packs p is .is-pack)
+  answers-outcome is (due (got c)) h =
+      (ap (λ (v : ℕ). four (yes-with (GOT p c v))) (process-read packs p is 1 (lit< tt)), progress-cleared packs p is .is-pack)
+  answers-outcome is (due (chose c)) h = (refl, progress-cleared packs p is .is-pack)
 
 module _ {t : List ℕ} {cores processes k : ℕ} (pre : Takes t cores processes k) where
   -- the active queue begins with the process that is read
@@ -123,8 +89,7 @@ module _ {t : List ℕ} {cores processes k : ℕ} (pre : Takes t cores processes
 
   pub can-take-head : CanTake t cores k (word-at t (core-at k 3))
   can-take-head =
-      let packs = free-packs (pre .free) in
-      subst₂ (λ (u : List ℕ) (n : ℕ). CanTake u n k (word-at t (core-at k 3))) (sym (packs .is-pack)) (sym (packs .all-cores))
+      on-pack (free-packs (pre .free)) (λ u n. CanTake u n k (word-at t (core-at k 3)))
       (can-take (view t) k (free-inside (pre .free)) (free-order (pre .free)) _ (queue .0) (queue .1))
 
   -- the state after the take
@@ -138,13 +103,9 @@ module _ {t : List ℕ} {cores processes k : ℕ} (pre : Takes t cores processes
   taken-packs n =
       let packs = free-packs (pre .free) in
       let p = word-at t (core-at k 3) in
-      record {
-        is-pack =
-            subst₂ (λ (u : List ℕ) (m : ℕ). taken-table u m k p n ≡ pack (after n)) (sym (packs .is-pack)) (sym (packs .all-cores))
-            (take-step-law (view t) k (free-inside (pre .free)) (free-order (pre .free)) p n (queue .0) (queue .1) (pre .free .work));
-        all-cores = packs .all-cores ∙ sym (length-set (view t .cores) k _);
-        all-processes = packs .all-processes ∙ sym (length-set-nth (view t .processes) p _);
-      }
+      still packs (length-set (view t .cores) k _) (length-set-nth (view t .processes) p _)
+      (as-packed packs (λ u m. taken-table u m k p n)
+      (take-step-law (view t) k (free-inside (pre .free)) (free-order (pre .free)) p n (queue .0) (queue .1) (pre .free .work)))
 
   -- the dispatch count is one less
   counted : (n : ℕ) → word-at t (core-at k 6) ≡ suc n → core-of (view t) k .dispatch ≡ suc n
@@ -158,16 +119,15 @@ module _ {t : List ℕ} {cores processes k : ℕ} (pre : Takes t cores processes
   comes n e r v h =
       subst (λ x. Comes x t r v) (sym (idle.takes (view t) k (pre .free .work) _ n (queue .0) (counted n e) (queue .1))) h
 
+  is-taken : (n : ℕ) → IsProcess (after n) (word-at t (core-at k 3))
+  unfolding after
+  is-taken n = let p = word-at t (core-at k 3) in still-process (view t) p p _ (stands .low, stands .high)
+
   -- the words of the taken process's progress
   number-read : (n j : ℕ) → j < 14 → getD (taken-table t cores k (word-at t (core-at k 3)) n) (process-at cores (word-at t (core-at k 3)) (6 + j)) 0
       ≡ getD (progress-words (process-of (after n) (word-at t (core-at k 3)) .progress)) j 0
   unfolding after
-  number-read n j h =
-      let packs = taken-packs n in
-      let p = word-at t (core-at k 3) in
-      subst₂ (λ (u : List ℕ) (m : ℕ). getD u (process-at m p (6 + j)) 0 ≡ getD (progress-words (process-of (after n) p .progress)) j 0)
-      (sym (packs .is-pack)) (sym (packs .all-cores))
-      (read-progress (after n) p (stands .low) (subst (λ (m : ℕ). p ≤ m) (sym (length-set-nth (view t .processes) p _)) (stands .high)) j h)
+  number-read n j h = progress-read (taken-packs n) (word-at t (core-at k 3)) (is-taken n) j h
 
   -- what the code has written once the first process p runs, with the dispatch count one less
   module _ {p count : ℕ} {u : List ℕ} (head : p ≡ word-at t (core-at k 3)) (count-is : count ≡ word-at t (core-at k 6))
@@ -190,10 +150,6 @@ module _ {t : List ℕ} {cores processes k : ℕ} (pre : Takes t cores processes
     word-read : (j : ℕ) → j < 14 → getD u (process-at cores p (6 + j)) 0 ≡ getD (progress-words (process-of (after n) (word-at t (core-at k 3)) .progress)) j 0
     word-read j h = (λ i. getD (written i) (process-at cores (head i) (6 + j)) 0) ∙ number-read n j h
 
-    high : word-at t (core-at k 3) ≤ length (after n .processes)
-    unfolding after
-    high = subst (λ (m : ℕ). word-at t (core-at k 3) ≤ m) (sym (length-set-nth (view t .processes) (word-at t (core-at k 3)) _)) (stands .high)
-
     pub take-moved : {num : ℕ} {r : Reply} → num ≡ getD u (process-at cores p 6) 0 → num < 20 → r ≡ four (yes-with MOVED) → Does (step k) t r u
     take-moved {num} {r} num-is small reply =
         let q = word-at t (core-at k 3) in
@@ -212,7 +168,7 @@ module _ {t : List ℕ} {cores processes k : ℕ} (pre : Takes t cores processes
         reply ∙ (λ i. four (yes-with (reported (number i) (head i) (channel i) (getD u (process-at cores (head i) 1) 0)))) in
         comes n above r v (subst₂ (λ (r : Reply) (v : List ℕ). Comes (run (taken q x) (after n)) t r v) (sym said)
         (sym (cleared-is ∙ ap (λ (p : ℕ). cleared u cores p) head))
-        (answers-outcome packs t q (stands .low) high x (subst (λ (m : ℕ). 20 ≤ m) number large)))
+        (answers-outcome packs t q (is-taken n) x (subst (λ (m : ℕ). 20 ≤ m) number large)))
 
   -- the process that the code has read
   pub can-take-first : {p : ℕ} → p ≡ word-at t (core-at k 3) → CanTake t cores k p

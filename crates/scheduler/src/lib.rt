@@ -1,16 +1,13 @@
 // The steps of a core with nothing running and no task (document 01; 000, section 2.1).
 ghost use mathlib.Core.Path.{_≡_};
-ghost use Prim.Native.Nat.{ℕ, _+_, _*_, _-_, _≤_, _<_, min};
+ghost use Prim.Native.Nat.{_+_, _*_, _-_, _<_, min};
 ghost use lib.Dec.{eqb};
-ghost use lib.ListN.{length, set};
 ghost use Rattle.rules.specs.Lists.{bit};
 ghost use Rattle.rules.specs.State.{no-task};
-ghost use Rattle.rules.specs.Packing.{word-at, core-at, process-at};
 ghost use Rattle.rules.specs.Scheduler.{step};
-ghost use Rattle.table.specs.Has.{HasCore, HasProcess};
 ghost use Rattle.parts.specs.Does.{Does};
-ghost use Rattle.queues.specs.Fits.{CanTake, CanLoad};
-ghost use Rattle.scheduler.specs.Free.{Free, Takes, Stores, Loads, taken-table, loaded-table};
+ghost use Rattle.queues.specs.Fits.{CanTake};
+ghost use Rattle.scheduler.specs.Free.{Free, Takes, Stores, Loads, taken-table};
 use answers::Reply;
 
 // The first process p of the active queue runs, and the dispatch count is n.

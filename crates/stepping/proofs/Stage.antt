@@ -1,59 +1,27 @@
 -- The stage of a running process, by the number that is read, and what the step of its core then is.
-use Prim.Native.Nat.{ℕ, zero, suc, _+_, _≤_, _<_}
+use Prim.Native.Nat.{ℕ, _≤_}
 use mathlib.Core.Path.{_≡_, refl, sym, ap, _∙_, subst, subst₂}
-use mathlib.Core.List.{List, [], _∷_}
+use mathlib.Core.List.{List}
 use mathlib.Core.Logic.{_⊎_, inl, inr}
 use native.Mathlib.Decide.{ℕ-discrete}
 use native.Mathlib.Omega.{arith}
-use lib.Dec.{T}
 use lib.ListN.{length, getD, take, List·getD-eq-default}
 use Rattle.rules.specs.Lists.{tabulate}
-use Rattle.rules.specs.Numbers.{Answer, AWAITED, no-because}
-use Rattle.rules.specs.State.{
-  Way,
-  sending,
-  receiving,
-  Stage,
-  look,
-  park,
-  copy,
-  clear,
-  wake,
-  enable-look,
-  raise,
-  place-name,
-  ready-from-look,
-  ready-from-place,
-  wait,
-  disable,
-  lower,
-  finish,
-  Outcome,
-  go,
-  sent,
-  got,
-  chose,
-  Progress,
-  nothing,
-  doing,
-  due,
-  Work,
-  wiring,
-}
+use Rattle.rules.specs.Numbers.{AWAITED, no-because}
+use Rattle.rules.specs.State.{Way, sending, receiving, Stage, look, park, copy, clear, wake, enable-look, raise, place-name, ready-from-look, ready-from-place, wait, disable, lower, finish, Progress, nothing, doing, due, Work}
 use Rattle.rules.specs.Items.{core-of, process-of}
-use Rattle.rules.specs.Rule.{Ran, run}
+use Rattle.rules.specs.Rule.{run}
 use Rattle.rules.specs.Scheduler.{running-step, stage-step, work-step, step}
 use Rattle.rules.specs.Packing.{view, K-of, N-of, process-at, progress-from, ready-from}
-use Rattle.rules.specs.Soundness.{valid-work}
 use Rattle.rules.proofs.Tests.{within-means}
 use Rattle.answers.specs.Four.{four}
 use Rattle.answers.specs.declared.Reply.{Reply}
-use Rattle.parts.specs.Does.{Card, At, Comes, Does, of-way}
-use Rattle.parts.proofs.Card.{cores-are, card-process, facts, N-is}
+use Rattle.parts.specs.Does.{At, Comes, Does, of-way}
+use Rattle.parts.proofs.Card.{card-process, work-valid, N-is}
+use Rattle.parts.proofs.Seen.{progress-seen}
 use Rattle.choice.specs.Read.{guards-at, index-at, ready-at}
 use Rattle.table.specs.Has.{HasProcess}
 use Rattle.stepping.specs.Running.{Running}
-use Rattle.stepping.proofs.Seen.{progress-seen}
 
 -- the progress of a number, with the words that are read
 unfoldable pub progress-at : List ℕ → ℕ → ℕ → ℕ → Progress
@@ -96,13 +64,6 @@ exchange t cores p receiving = record { look = refl; park = refl; copy = refl; c
 pub exchange-of : (t : List ℕ) (cores p : ℕ) (w : Way) {c q : ℕ} → c ≡ getD t (process-at cores p 7) 0 → q ≡ getD t (process-at cores p 8) 0
     → Exchange t cores p w c q
 exchange-of t cores p w e f = subst₂ (λ (c q : ℕ). Exchange t cores p w c q) (sym e) (sym f) (exchange t cores p w)
-
--- the work of the core of a card is valid
-pub work-valid : {t : List ℕ} {cores processes k : ℕ} → Card t cores processes k → {w : Work} → core-of (view t) k .work ≡ w → T (valid-work (wiring (view t)) w)
-work-valid {t} {cores} {processes} {k} card e =
-    let same = cores-are t cores processes k card in
-    let h = card .inside in
-    subst (λ (w : Work). T (valid-work (wiring (view t)) w)) e (facts t (card .is-sound) .cores k (omega arith) .work)
 
 module _ {t : List ℕ} {cores processes k p : ℕ} (running : Running t cores processes k p) where
   -- the running process is one of the state's, and its words are there

@@ -1,37 +1,37 @@
 -- The kernel tasks: which one a core has, by the words that are read, and what waking comes to.
-use Prim.Native.Nat.{ℕ, zero, suc, _≤_, _<_}
+use Prim.Native.Nat.{ℕ, _≤_, _<_}
 use mathlib.Core.Path.{_≡_, refl, sym, ap, _∙_, subst}
 use mathlib.Core.Bool.{true, false}
-use mathlib.Core.List.{List, [], _∷_, _++_}
+use mathlib.Core.List.{List, [], _∷_}
 use native.Mathlib.Omega.{arith}
-use lib.Dec.{T, eqb, lit<, lit≤}
-use lib.ListN.{length, getD, set, length-set}
+use lib.Dec.{eqb, lit<, lit≤}
+use lib.ListN.{length, getD, set}
 use borrow.Author.Tests.{eq-eqb, ne-eqb}
 use Rattle.rules.specs.Lists.{if_then_else_}
-use Rattle.rules.specs.Numbers.{MOVED, FAULT, yes-with, no-because}
-use Rattle.rules.specs.State.{Place, running, queued, asleep, ended, no-task, trigger, wake-up, Work, runs, free, State, wiring}
-use Rattle.rules.specs.Items.{core-of, process-of, core, place, put}
-use Rattle.rules.specs.Rule.{Rule, Ran, run, done, _>>_}
-use Rattle.rules.specs.Steps.{must-sleep, joins, has-task, with-active}
+use Rattle.rules.specs.Numbers.{Answer, MOVED, FAULT, yes-with, no-because}
+use Rattle.rules.specs.State.{Place, asleep, no-task, trigger, wake-up, Work, runs, free}
+use Rattle.rules.specs.Items.{core-of, process-of}
+use Rattle.rules.specs.Rule.{Ran, run, done, _>>_}
+use Rattle.rules.specs.Steps.{must-sleep, joins, has-task}
 use Rattle.rules.specs.Choice.{trigger-step}
 use Rattle.rules.specs.Scheduler.{work-step, step}
-use Rattle.rules.specs.Packing.{view, word-at, core-at, process-at, place-number, work-words, work-from}
+use Rattle.rules.specs.Packing.{view, core-at, process-at, place-number, work-words, work-from}
 use Rattle.packing.specs.Queues.{push-table}
 use Rattle.rules.proofs.Tests.{within-means}
-use Rattle.rules.proofs.Packing.ReadLaws.{read-core}
 use Rattle.answers.specs.Four.{four}
 use Rattle.answers.specs.declared.Reply.{Reply}
-use Rattle.table.specs.Has.{HasProcess, HasCore}
+use Rattle.table.specs.Has.{HasProcess}
 use Rattle.parts.specs.Does.{Card, Comes, Does}
 use Rattle.parts.specs.Shared.{task-table}
-use Rattle.parts.proofs.Card.{facts, card-process, packed, cores-are}
+use Rattle.parts.proofs.Card.{facts, card-process, card-inside, work-valid}
+use Rattle.parts.proofs.Seen.{work-seen}
+use Rattle.parts.proofs.Packs.{Packs, IsProcess, card-packs, process-read, core-read, task-written}
+use Rattle.parts.proofs.Wakes.{sleeper, awake-refused}
 use Rattle.queues.specs.Fits.{CanJoin}
-use Rattle.steps.proofs.Packs.{Packs, IsProcess, card-packs, place-read, task-written, may-join, joined}
+use Rattle.queues.proofs.Joins.{may-join, joined, joined-inside}
 use Rattle.scheduler.specs.Free.{Free}
 use Rattle.scheduler.proofs.Known.{free-inside, free-order}
 use Rattle.stepping.specs.Running.{Running}
-use Rattle.stepping.proofs.Seen.{work-seen}
-use Rattle.stepping.proofs.Stage.{work-valid}
 
 -- the step of a core is that of its work
 does-work : (t : List ℕ) (k : ℕ) (w : Work) → core-of (view t) k .work ≡ w → (r : Reply) (u : List ℕ)
@@ -77,9 +77,7 @@ module _ {t : List ℕ} {cores processes k : ℕ} (card : Card t cores processes
 
     pub is-wake : (task ≡ 0 → ⊥) → (task ≡ 1 → ⊥) → Free t cores processes k (wake-up q)
     is-wake a b =
-        let inside : k < length (view t .cores) = let e = cores-are t cores processes k card in let h = card .inside in omega arith in
-        let read : getD t (core-at k 1) 0 ≡ getD (work-words (core-of (view t) k .work)) 1 0 =
-        ap (λ (u : List ℕ). getD u (core-at k 1) 0) (packed t (card .is-sound)) ∙ read-core (view t) k 1 inside (lit< tt) in
+        let read : getD t (core-at k 1) 0 ≡ getD (work-words (core-of (view t) k .work)) 1 0 = core-read (card-packs card) k (card-inside card) 1 (lit< tt) in
         let two : task ≡ 2 = omega (arith, task-number (core-of (view t) k .work)) in
         record { card = card; work = task-of ∙ ap (λ n. free (getD (no-task ∷ trigger q ∷ wake-up q ∷ []) n no-task)) two }
 
@@ -105,29 +103,21 @@ module _ {t : List ℕ} {cores processes k q : ℕ} (pre : Free t cores processe
 
   module _ {n : ℕ} (read : n ≡ getD t (process-at cores q 0) 0) where
     place-is : n ≡ place-number (process-of (view t) q .place)
-    place-is = read ∙ place-read packs q is
+    place-is = read ∙ process-read packs q is 0 (lit< tt)
 
     pub wake-faults : (n ≡ 3 → ⊥) → {r : Reply} → r ≡ four (no-because FAULT) → Does (step k) t r t
-    wake-faults awake {r} reply = cases (process-of (view t) q .place) refl
-      where
-        cases : (x : Place) → process-of (view t) q .place ≡ x → Does (step k) t r t
-        cases running e = by-place running e r t (reply, refl)
-        cases queued e = by-place queued e r t (reply, refl)
-        cases asleep e = absurd (awake (place-is ∙ ap place-number e))
-        cases ended e = by-place ended e r t (reply, refl)
+    wake-faults awake {r} reply =
+        by-place (process-of (view t) q .place) refl r t
+        (subst (λ (x : Ran Answer). Comes x t r t)
+        (sym (awake-refused (process-of (view t) q .place) (λ e. awake (place-is ∙ e)) (joins k q) (has-task k no-task >> done MOVED) (view t)))
+        (reply, refl))
 
     pub wake-does : n ≡ 3 → {r : Reply} {u v : List ℕ} → v ≡ push-table (set t (process-at cores q 0) 2) cores k q → u ≡ task-table v k 0 0
         → r ≡ four (yes-with MOVED) → Does (step k) t r u
-    wake-does sleeps {r} {u} {v} pushed tasked reply = cases (process-of (view t) q .place) refl
-      where
-        cases : (x : Place) → process-of (view t) q .place ≡ x → Does (step k) t r u
-        cases running e = absurd (let z = ap place-number e in omega (arith, place-is))
-        cases queued e = absurd (let z = ap place-number e in omega (arith, place-is))
-        cases asleep e =
-            by-place asleep e r u (
-              reply,
-              tasked ∙ ap (λ (w : List ℕ). task-table w k 0 0) pushed
-                  ∙ task-written (joined packs k (free-inside pre) (free-order pre) q is) k
-                  (subst (λ (m : ℕ). k < m) (sym (length-set (view t .cores) k _)) (free-inside pre)) no-task 0 0 refl .is-pack,
-            )
-        cases ended e = absurd (let z = ap place-number e in omega (arith, place-is))
+    wake-does sleeps {r} {u} {v} pushed tasked reply =
+        by-place asleep (sleeper (process-of (view t) q .place) (sym place-is ∙ sleeps)) r u (
+          reply,
+          tasked ∙ ap (λ (w : List ℕ). task-table w k 0 0) pushed
+              ∙ task-written (joined packs k (free-inside pre) (free-order pre) q is) k (joined-inside packs k (free-inside pre) (free-order pre) q is)
+              no-task 0 0 refl .is-pack,
+        )

@@ -1,6 +1,6 @@
 // The next atomic step of a core, on a sound table (document 01).
 ghost use mathlib.Core.Path.{_≡_};
-ghost use Prim.Native.Nat.{ℕ, _+_, _*_, _-_, _≤_, _<_};
+ghost use Prim.Native.Nat.{_-_, _≤_, _<_};
 ghost use lib.ListN.{getD};
 ghost use Rattle.rules.specs.State.{wake-up};
 ghost use Rattle.rules.specs.Packing.{process-at};

@@ -2,22 +2,20 @@
 use Prim.Native.Nat.{ℕ, _+_, _%_}
 use mathlib.Core.Path.{_≡_, sym, ap, _∙_, subst}
 use mathlib.Core.List.{List, [], _∷_}
-use native.Mathlib.Omega.{arith}
+use lib.Dec.{lit<}
 use lib.ListN.{getD, set}
 use Rattle.rules.specs.Numbers.{Answer, MOVED, SLEPT, yes-with}
-use Rattle.rules.specs.State.{Way, sending, receiving, look, park, copy, clear, wake, asleep, doing, due, Task, free, ChannelWord, nobody, plain}
-use Rattle.rules.specs.Items.{channel-of, put, data-word, progress, channel-word, transfers}
+use Rattle.rules.specs.State.{Way, sending, receiving, look, park, copy, clear, wake, doing, due, Task, free, ChannelWord, nobody, plain, State}
+use Rattle.rules.specs.Items.{process-of, channel-of, put, data-word, progress, channel-word, transfers}
 use Rattle.rules.specs.Packing.{pack, view, work-words, process-at, channel-at, word-number}
 use Rattle.rules.specs.Rule.{Rule, run}
 use Rattle.rules.specs.Steps.{sleeps, after-look, outcome, parked, look-step, park-step, copy-step, clear-step}
-use Rattle.rules.proofs.Laws.Frame.{put-other}
-use Rattle.packing.proofs.States.{length-set-nth}
 use Rattle.answers.specs.Four.{four}
 use Rattle.answers.specs.declared.Reply.{Reply}
 use Rattle.parts.specs.Does.{At, Comes, Does, of-way}
 use Rattle.parts.specs.Shared.{asleep-table}
+use Rattle.parts.proofs.Packs.{Packs, IsProcess, still-process, progress-kept, channel-read, process-read, word-written, transfers-written, data-written, asleep-written}
 use Rattle.steps.specs.Outcomes.{due-of, copied}
-use Rattle.steps.proofs.Packs.{Packs, IsProcess, transfers-read, word-written, transfers-written, place-written, data-copied, task-written}
 use Rattle.steps.proofs.Moves.{stage-words, goes-on, finds}
 use Rattle.steps.proofs.Near.{at-look, at-park, at-copy, at-clear}
 
@@ -69,8 +67,13 @@ module _ {t : List ℕ} {cores processes k p c : ℕ} {w : Way} (at : At t cores
         let near = at-park at in
         let words = stage-words w c 0 in
         let outcome-due = goes-on named p (near .is-process) (at .stage) (due (outcome w c)) (words .park) (words .due) in
-        let sleeping = place-written outcome-due p (near .is-process .0, rw length-set-nth (near .is-process .1)) asleep in
-        parked-does r v (ap (parked k p w c) there ∙ next) (reply, written ∙ task-written sleeping k (near .inside) y task q e .is-pack)
+        let sleeping = asleep-written outcome-due k (near .inside) p (still-process (put channel-word c (plain p) (view t)) p p _ (near .is-process)) y task q e in
+        parked-does r v (ap (parked k p w c) there ∙ next) (reply, written ∙ sleeping .is-pack)
+
+-- the data word of one process is written into that of another
+data-copied : {t : List ℕ} {cores processes : ℕ} {s : State} → Packs t cores processes s → (d e : ℕ) → IsProcess s d → IsProcess s e
+    → Packs (set t (process-at cores d 1) (getD t (process-at cores e 1) 0)) cores processes (put data-word d (process-of s e .data-word) s)
+data-copied {s = s} packs d e is is′ = rw (process-read packs e is′ 1 (lit< tt)) (data-written packs d is (process-of s e .data-word))
 
 module _ {t : List ℕ} {cores processes k p c q : ℕ} where
   -- copy: one transfer more, after the data word of d was written
@@ -83,9 +86,9 @@ module _ {t : List ℕ} {cores processes k p c q : ℕ} where
       let near = at-copy at .0 in
       let words = stage-words w c q in
       let counted = transfers-written packs c (near .is-channel) ((channel-of (view t) c .transfers + 1) % 4294967296) in
-      let had = put-other data-word progress d p v (view t) (λ e. let z : _≡_ {A = ℕ} 0 1 = cc in omega arith) ∙ at .stage in
-      let is : IsProcess (put data-word d v (view t)) p = (near .is-process .0, rw length-set-nth (near .is-process .1)) in
-      rw (transfers-read packs c (near .is-channel)) (goes-on counted p is had (doing (clear w c q)) (words .copy) (words .clear) .is-pack)
+      let had = progress-kept data-word tt d v (view t) p ∙ at .stage in
+      let is : IsProcess (put data-word d v (view t)) p = still-process (view t) p d _ (near .is-process) in
+      rw (channel-read packs c (near .is-channel) 3 (lit< tt)) (goes-on counted p is had (doing (clear w c q)) (words .copy) (words .clear) .is-pack)
 
   pub copy-does : (w : Way) → At t cores processes k p (copy w c q) → {u : List ℕ} {n : ℕ} → u ≡ copied w t cores p q
       → n ≡ getD u (channel-at cores processes c 3) 0 → {m : ℕ} {v z : List ℕ} {r : Reply} → m ≡ (n + 1) % 4294967296

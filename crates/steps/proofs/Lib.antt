@@ -1,5 +1,3 @@
-pub mod Words
-pub mod Packs
 pub mod Moves
 pub mod Near
 pub mod Comes

@@ -8,8 +8,8 @@ use Rattle.rules.specs.Items.{process-of, put, progress}
 use Rattle.rules.specs.Packing.{process-at, of-channel, progress-words}
 use Rattle.rules.specs.Steps.{outcome}
 use Rattle.parts.specs.Does.{of-way}
+use Rattle.parts.proofs.Packs.{Packs, IsProcess, progress-written}
 use Rattle.steps.specs.Outcomes.{due-of}
-use Rattle.steps.proofs.Packs.{Packs, IsProcess, progress-written}
 
 -- the words of the stages at channel c with partner q, and of the outcome
 pub record StageWords (w : Way) (c q : ℕ) : Type 0 where

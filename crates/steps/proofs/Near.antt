@@ -1,9 +1,8 @@
 -- What is known at a stage of send or receive: of its core, its process and its channel, and of the partner where there is one.
 use Prim.Native.Nat.{ℕ, _<_}
-use mathlib.Core.Path.{_≡_}
+use mathlib.Core.Path.{_≡_, sym, ap, _∙_}
 use mathlib.Core.Bool.{_&&_}
 use mathlib.Core.List.{List}
-use native.Mathlib.Omega.{arith}
 use lib.Dec.{T}
 use lib.ListN.{length, getD}
 use Rattle.rules.specs.State.{Way, Stage, look, park, copy, clear, wake, wiring}
@@ -15,9 +14,8 @@ use Rattle.words.specs.Meaning.{meaning}
 use Rattle.words.specs.declared.Holder.{Holder}
 use Rattle.table.specs.Has.{HasCore, HasProcess, HasChannel}
 use Rattle.parts.specs.Does.{Card, At}
-use Rattle.parts.proofs.Card.{cores-are, card-core, card-process, card-channel, runs-range, runs-process, stage-valid, own-end-range}
-use Rattle.steps.proofs.Packs.{Packs, IsProcess, IsChannel, card-packs}
-use Rattle.steps.proofs.Words.{found-there}
+use Rattle.parts.proofs.Card.{card-inside, card-core, card-process, card-channel, runs-range, runs-process, stage-valid, own-end-range}
+use Rattle.parts.proofs.Packs.{Packs, IsProcess, IsChannel, card-packs, who-stands}
 
 -- the core k, the process p that runs there and its channel c
 pub record Near (t : List ℕ) (cores processes k p c : ℕ) : Type 0 where
@@ -38,8 +36,7 @@ pub record Partner (t : List ℕ) (cores q : ℕ) : Type 0 where
 -- who is found in the channel's word stands there
 pub found-near : {t : List ℕ} {cores processes k p c : ℕ} → Near t cores processes k p c → {found h : Holder} → found ≡ h
     → meaning found ≡ word-from (getD t (channel-at cores processes c 2) 0) → channel-of (view t) c .word ≡ meaning h
-found-near {t} {cores} {processes} {k} {p} {c} near told means =
-    found-there (near .card) c (near .is-channel .0) (near .is-channel .1) told means
+found-near {c = c} near told means = sym (who-stands (near .card) c (near .is-channel)) ∙ sym means ∙ ap meaning told
 
 module _ {t : List ℕ} {cores processes k p : ℕ} {x : Stage} (at : At t cores processes k p x) where
   -- at a channel whose end the process is
@@ -49,7 +46,7 @@ module _ {t : List ℕ} {cores processes k p : ℕ} {x : Stage} (at : At t cores
       record {
         card = at .card;
         packs = card-packs (at .card);
-        inside = let e = cores-are t cores processes k (at .card) in let h = at .card .inside in omega arith;
+        inside = card-inside (at .card);
         is-process = runs-range t cores processes k p x at;
         is-channel = range;
         core = card-core t cores processes k (at .card);

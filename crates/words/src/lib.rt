@@ -1,8 +1,7 @@
 // Channel words by shift and mask (document 01, "The state"): "0 for nobody, otherwise twice the process number, with the lowest bit
 // set when that process is choosing".
 ghost use mathlib.Core.Path.{_≡_};
-ghost use Prim.Native.Nat.{_+_, _*_, _/_, _%_, _<_, _^_};
-ghost use lib.Dec.{eqb};
+ghost use Prim.Native.Nat.{_/_, _%_, _<_, _^_};
 ghost use Rattle.rules.specs.State.{plain, choosing};
 ghost use Rattle.rules.specs.Packing.{word-number, word-from};
 ghost use Rattle.words.specs.Meaning.{meaning};

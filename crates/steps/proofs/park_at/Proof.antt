@@ -3,7 +3,7 @@ use mathlib.Core.Path.{refl}
 use native.Mathlib.Omega.{arith}
 use Rattle.rules.specs.State.{no-task, trigger}
 use borrow.Author.Needs.{needs}
-use Rattle.steps.proofs.Words.{name-fits}
+use Rattle.parts.proofs.Card.{name-fits}
 use Rattle.steps.proofs.Near.{at-park, found-near}
 use Rattle.steps.proofs.Comes.{park-names, park-sleeps, park-copies}
 use Rattle.steps.proofs.park_at.Statement.{statement}
@@ -13,7 +13,7 @@ who-is-at-requires : tie.Need-who-is-at-requires
 who-is-at-requires c κs = at-park (c .before .before .pre) .channel
 
 plain-name-requires : tie.Need-plain-name-requires
-plain-name-requires c κs = name-fits (c .before .before .before .pre)
+plain-name-requires c κs = let at = c .before .before .before .pre in name-fits (at .card) (at-park at .is-process .1)
 
 set-word-requires : tie.Need-set-word-requires
 set-word-requires c κs = at-park (c .before .before .before .before .before .pre) .channel

@@ -1,5 +1,5 @@
 -- The two tests of a channel word are those of the rules.
-use Prim.Native.Nat.{_%_, _/_}
+use Prim.Native.Nat.{_%_}
 use mathlib.Core.Path.{_≡_, ap}
 use mathlib.Core.Bool.{true, false}
 use native.Mathlib.Omega.{arith}

@@ -1,77 +1,15 @@
--- What the words that the scheduler reads say of the state.
+-- A core and a process of a table, as the view reads them.
 use Prim.Native.Nat.{ℕ, zero, suc, _+_, _≤_, _<_}
-use mathlib.Core.Path.{_≡_, refl, sym, ap, _∙_, subst}
-use mathlib.Core.Bool.{Bool, true, false}
-use mathlib.Core.List.{List, [], _∷_}
+use mathlib.Core.Path.{_≡_, ap, _∙_}
+use mathlib.Core.List.{List}
 use native.Mathlib.Omega.{arith}
 use native.Mathlib.Nat.{zero-add}
-use lib.Dec.{T, eqb}
-use lib.ListN.{length, getD, take}
-use borrow.Author.Tests.{eq-eqb, ne-eqb}
-use Rattle.rules.specs.Lists.{tabulate, nth}
-use Rattle.rules.specs.State.{
-  Place,
-  running,
-  queued,
-  asleep,
-  ended,
-  sending,
-  receiving,
-  look,
-  park,
-  copy,
-  clear,
-  wake,
-  enable-look,
-  raise,
-  place-name,
-  ready-from-look,
-  ready-from-place,
-  wait,
-  disable,
-  lower,
-  finish,
-  go,
-  sent,
-  got,
-  chose,
-  Progress,
-  nothing,
-  doing,
-  due,
-  Process,
-  no-task,
-  trigger,
-  wake-up,
-  Work,
-  runs,
-  free,
-  Core,
-  State,
-}
+use lib.ListN.{take}
+use Rattle.rules.specs.Lists.{tabulate}
+use Rattle.rules.specs.State.{Process, Core}
 use Rattle.rules.specs.Items.{no-core, no-process, core-of, process-of}
-use Rattle.rules.specs.Packing.{
-  pack,
-  view,
-  view-core,
-  view-process,
-  K-of,
-  N-of,
-  core-at,
-  process-at,
-  core-word,
-  process-word,
-  work-from,
-  progress-from,
-  ready-from,
-  place-from,
-  place-number,
-  progress-words,
-}
-use Rattle.rules.specs.Soundness.{sound, on-cores, in-queues, runs-it, fits, stands}
+use Rattle.rules.specs.Packing.{view, view-core, view-process, K-of, N-of, core-word, process-word, work-from, progress-from, ready-from}
 use Rattle.rules.proofs.Tabulate.{tabulate-at}
-use Rattle.parts.specs.Does.{Card, At}
-use Rattle.parts.proofs.Card.{facts, cores-are, processes-are, K-is, N-is}
 
 module _ (t : List ℕ) where
   -- a core and a process that are there are what the view reads at their words
