@@ -26,9 +26,9 @@ pub fn push(t: &mut [u32], cores: usize, k: usize, q: u32)
     requires { ⌜ CanPush (now t) cores k ⌝ }
     ensures { λ r. ⌜ now (t .exit) ≡ push-table (now (t .entry)) cores k q ⌝ }
 {
-    let last = table::core_word(t, k, 4);
+    let old_last = table::core_word(t, k, 4);
     let size = table::core_word(t, k, 5);
-    link_end(t, cores, k, 3, 20, last, q);
+    link_end(t, cores, k, 3, 20, old_last, q);
     t[8 + 16 * k + 4] = q;
     t[8 + 16 * k + 5] = size + 1;
 }
