@@ -28,9 +28,13 @@ target/host/%: host/%.c host/card.c host/card.h include/fontarisca.h $(LIBRARY)
 	@mkdir -p target/host
 	$(CC) $(CFLAGS) $< host/card.c $(LIBRARY) -o $@
 
-bench: $(LIBRARY) ## time calls of the library and of the model on the ring, in one run
-	CARGO_TARGET_DIR=target/rust FONTARISCA_LIB=target/staticlib cargo build --release --offline --quiet --manifest-path host/rust/Cargo.toml
-	target/rust/release/bench
+target/bench/libunchecked.a: $(LIBRARY) host/without-check
+	host/without-check
+
+bench: target/bench/libunchecked.a ## time the library, plain Rust and the model on the ring, and write docs/BENCH.md
+	CARGO_TARGET_DIR=target/rust FONTARISCA_LIB=target/staticlib cargo build --profile timed --offline --quiet \
+	    --manifest-path host/rust/Cargo.toml --features unchecked --bin bench
+	target/rust/timed/bench --page host/bench.template docs/BENCH.md
 
 clean: ## remove what was made
 	rm -rf target

@@ -12,10 +12,33 @@ pub use records::Card;
 pub use soundness::sound;
 
 use crate::model::number::*;
-use crate::model::{Action, Call, Machine, Number, Reply};
+use crate::model::{Action, Call, Machine, Number};
 
-/// A reply, or the number of a refusal.
-type Answered = Result<Reply, Number>;
+/// The number that a call returns and its answer words; a refusal has none.
+#[derive(Clone, Copy, Debug, PartialEq, Eq)]
+pub struct Reply {
+    pub number: Number,
+    pub process: u32,
+    pub channel: u32,
+    pub value: u32,
+}
+
+impl Reply {
+    /// A reply with its words.
+    fn new(number: Number, process: u32, channel: u32, value: u32) -> Reply {
+        Reply { number, process, channel, value }
+    }
+
+    /// The reply of a step that names none.
+    fn moved() -> Reply {
+        Reply::new(MOVED, 0, 0, 0)
+    }
+
+    /// A refusal.
+    fn refused(number: Number) -> Reply {
+        Reply::new(number, 0, 0, 0)
+    }
+}
 
 /// The plain version as a machine.
 pub struct Plain;
@@ -49,45 +72,23 @@ pub fn refused_first(table: &[u32], answer: &[u32], core: u32) -> Option<Number>
 
 /// Writes the words of an accepted call, and gives its number.
 pub fn tell(answer: &mut [u32], reply: Reply) -> Number {
-    if reply.accepted() {
-        answer.copy_from_slice(&reply.words);
+    if reply.number < FIRST_REFUSAL {
+        answer[0] = reply.process;
+        answer[1] = reply.channel;
+        answer[2] = reply.value;
     }
     reply.number
 }
 
 /// A request or a step of a core that exists, on a sound table.
 fn act(table: &mut [u32], core: u32, action: &Action) -> Reply {
+    let (mut card, core) = (Card::of(table), core as usize);
     match action {
-        Action::Send { channel, value } => send(table, core, *channel, *value),
-        Action::Receive { channel } => receive(table, core, *channel),
-        Action::Choose { guards } => answered(Card::of(table).choose(core as usize, guards)),
-        Action::Yield => answered(Card::of(table).give_way(core as usize)),
-        Action::End => answered(Card::of(table).end(core as usize)),
-        Action::Step => step(table, core),
+        Action::Send { channel, value } => card.send(core, *channel, *value),
+        Action::Receive { channel } => card.receive(core, *channel),
+        Action::Choose { guards } => card.choose(core, guards),
+        Action::Yield => card.give_way(core),
+        Action::End => card.end(core),
+        Action::Step => card.step(core),
     }
-}
-
-/// A step on a sound table.
-pub fn step(table: &mut [u32], core: u32) -> Reply {
-    answered(Card::of(table).step(core as usize))
-}
-
-/// A send on a sound table.
-pub fn send(table: &mut [u32], core: u32, channel: u32, value: u32) -> Reply {
-    answered(Card::of(table).send(core as usize, channel, value))
-}
-
-/// A receive on a sound table.
-pub fn receive(table: &mut [u32], core: u32, channel: u32) -> Reply {
-    answered(Card::of(table).receive(core as usize, channel))
-}
-
-/// The reply, which for a refusal has no words.
-fn answered(answered: Answered) -> Reply {
-    answered.unwrap_or_else(Reply::refused)
-}
-
-/// The reply of a step that has none of its own.
-fn moved() -> Reply {
-    Reply::new(MOVED, 0, 0, 0)
 }

@@ -1,9 +1,8 @@
 //! The steps of choosing, and the trigger.
 
 use super::records::{channel, core, due, process, task, Card};
-use super::{moved, Answered};
+use super::Reply;
 use crate::model::number::FAULT;
-use crate::model::{Number, Reply};
 
 /// The numbers of the stages.
 const LOOK: u32 = 11;
@@ -21,31 +20,22 @@ const COUNT_LIMIT: u32 = 9;
 
 impl Card<'_> {
     /// The step of a process at this stage of choosing.
-    pub fn choice(&mut self, core: usize, p: u32, stage: u32) -> Answered {
-        let reply = match stage {
+    pub fn choice(&mut self, core: usize, p: u32, stage: u32) -> Reply {
+        match stage {
             LOOK => {
                 let free = *self.guarded_word(p) == 0;
                 self.stage(p, if free { RAISE } else { READY_FROM_LOOK })
             }
-            RAISE => {
-                self.raise(p)?;
-                self.stage(p, PLACE)
-            }
+            RAISE if self.raise(p) => self.stage(p, PLACE),
             PLACE => self.place(p),
             READY_FROM_LOOK => self.ready(p),
-            READY_FROM_PLACE => {
-                self.lower(p)?;
-                self.ready(p)
-            }
+            READY_FROM_PLACE if self.lower(p) => self.ready(p),
             WAIT => self.wait(core, p),
             DISABLE => self.disable(p),
-            LOWER => {
-                self.lower(p)?;
-                self.next_guard(p, DISABLE, FINISH)
-            }
-            _ => return self.finish(core, p),
-        };
-        Ok(reply)
+            LOWER if self.lower(p) => self.next_guard(p, DISABLE, FINISH),
+            FINISH => self.finish(core, p),
+            _ => Reply::refused(FAULT),
+        }
     }
 
     /// The word of the channel that the guard index names.
@@ -58,7 +48,7 @@ impl Card<'_> {
     /// The choice goes on at another stage.
     fn stage(&mut self, p: u32, stage: u32) -> Reply {
         self.process(p)[process::PROGRESS] = stage;
-        moved()
+        Reply::moved()
     }
 
     /// Goes on to the next guard at one stage, or after the last to another.
@@ -67,24 +57,27 @@ impl Card<'_> {
         let more = record[process::INDEX] < record[process::GUARD_COUNT];
         record[process::INDEX] = if more { record[process::INDEX] + 1 } else { 0 };
         record[process::PROGRESS] = if more { again } else { after };
-        moved()
+        Reply::moved()
     }
 
-    /// Raises the count.
-    fn raise(&mut self, p: u32) -> Result<(), Number> {
+    /// Raises the count, if it isn't at its limit.
+    fn raise(&mut self, p: u32) -> bool {
         let count = &mut self.process(p)[process::COUNT];
-        if *count >= COUNT_LIMIT {
-            return Err(FAULT);
+        let below = *count < COUNT_LIMIT;
+        if below {
+            *count += 1;
         }
-        *count += 1;
-        Ok(())
+        below
     }
 
-    /// Lowers the count and gives the new one.
-    fn lower(&mut self, p: u32) -> Result<u32, Number> {
+    /// Lowers the count, if it isn't 0.
+    fn lower(&mut self, p: u32) -> bool {
         let count = &mut self.process(p)[process::COUNT];
-        *count = count.checked_sub(1).ok_or(FAULT)?;
-        Ok(*count)
+        let above = *count > 0;
+        if above {
+            *count -= 1;
+        }
+        above
     }
 
     /// Puts one's name with the low bit into a word that is still 0.
@@ -110,7 +103,7 @@ impl Card<'_> {
         record[process::INDEX] = 1;
         record[process::ENABLING] = 0;
         if record[process::NOT_READY] == 0 {
-            return moved();
+            return Reply::moved();
         }
         record[process::NOT_READY] = 0;
         record[process::WAITING] = 1;
@@ -133,33 +126,35 @@ impl Card<'_> {
     }
 
     /// Ends a choice: at count 0 it is reported, above it is due.
-    fn finish(&mut self, core: usize, p: u32) -> Answered {
+    fn finish(&mut self, core: usize, p: u32) -> Reply {
         let record = self.process(p);
         let ready = record[process::READY] as usize;
-        if ready == 0 {
-            return Err(FAULT);
+        if ready == 0 || record[process::COUNT] == 0 {
+            return Reply::refused(FAULT);
         }
         let chosen = record[process::GUARDS + ready - 1];
-        if self.lower(p)? == 0 {
-            return Ok(self.report(p, due::CHOSE, chosen));
+        record[process::COUNT] -= 1;
+        if record[process::COUNT] == 0 {
+            return self.report(p, due::CHOSE, chosen);
         }
-        let record = self.process(p);
         record[process::PROGRESS..process::NEXT].fill(0);
         record[process::PROGRESS] = due::CHOSE;
         record[process::CHANNEL] = chosen;
-        Ok(self.sleep(core, p, task::NONE, 0))
+        self.sleep(core, p, task::NONE, 0)
     }
 
     /// The kernel task trigger q.
-    pub fn trigger(&mut self, core: usize, q: u32) -> Answered {
-        let count = self.lower(q)?;
+    pub fn trigger(&mut self, core: usize, q: u32) -> Reply {
+        if !self.lower(q) {
+            return Reply::refused(FAULT);
+        }
         let record = self.process(q);
-        let wakes = record[process::WAITING] == 1 || count == 0;
+        let wakes = record[process::WAITING] == 1 || record[process::COUNT] == 0;
         record[process::NOT_READY] = 0;
         record[process::WAITING] = 0;
         let (task, of) = if wakes { (task::WAKE, q) } else { (task::NONE, 0) };
         self.cores[core][core::TASK] = task;
         self.cores[core][core::TASK_OF] = of;
-        Ok(moved())
+        Reply::moved()
     }
 }

@@ -3,9 +3,8 @@
 use std::mem::replace;
 
 use super::records::{channel, due, place, process, task, Card};
-use super::{moved, Answered};
+use super::Reply;
 use crate::model::number::*;
-use crate::model::Reply;
 
 /// Which end of its channel the running process is at.
 #[derive(Clone, Copy, PartialEq, Eq)]
@@ -40,32 +39,29 @@ const WAKE: u32 = 5;
 
 impl Card<'_> {
     /// The step of a process at this stage, numbered as of send.
-    pub fn exchange(&mut self, core: usize, p: u32, side: Side, stage: u32) -> Answered {
+    pub fn exchange(&mut self, core: usize, p: u32, side: Side, stage: u32) -> Reply {
         let record = self.process(p);
         let (channel, partner) = (record[process::CHANNEL], record[process::PARTNER]);
-        let reply = match stage {
+        match stage {
             PARK => self.park(core, p, side, channel),
             COPY => self.copy(p, side, channel, partner),
             CLEAR => {
                 self.channel(channel)[channel::WORD] = 0;
                 self.go_on(p, side, WAKE)
             }
-            WAKE => {
-                self.wake(core, partner)?;
-                self.report(p, side.due(), channel)
-            }
+            WAKE if self.wake(core, partner) => self.report(p, side.due(), channel),
+            WAKE => Reply::refused(FAULT),
             _ => match plain_name(self.channel(channel)[channel::WORD]) {
                 Some(partner) => self.meet(p, side, partner),
                 None => self.go_on(p, side, PARK),
             },
-        };
-        Ok(reply)
+        }
     }
 
     /// The request goes on at another stage.
     fn go_on(&mut self, p: u32, side: Side, stage: u32) -> Reply {
         self.process(p)[process::PROGRESS] = stage + side.offset();
-        moved()
+        Reply::moved()
     }
 
     /// The partner is there: next copy.
@@ -101,13 +97,13 @@ impl Card<'_> {
         Reply::new(SLEPT, p, 0, 0)
     }
 
-    /// A sleeping process goes to the end of this core's active queue.
-    pub fn wake(&mut self, core: usize, q: u32) -> Result<(), u32> {
-        if self.process(q)[process::PLACE] != place::ASLEEP {
-            return Err(FAULT);
+    /// A process goes to the end of this core's active queue, if it is asleep.
+    pub fn wake(&mut self, core: usize, q: u32) -> bool {
+        let asleep = self.process(q)[process::PLACE] == place::ASLEEP;
+        if asleep {
+            self.join(core, q);
         }
-        self.join(core, q);
-        Ok(())
+        asleep
     }
 
     /// The running process has come to an outcome, and has nothing in hand.

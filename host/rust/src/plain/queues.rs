@@ -2,35 +2,34 @@
 
 use super::exchange::Side;
 use super::records::{core, place, process, task, Card};
-use super::{moved, Answered};
+use super::Reply;
 use crate::model::number::*;
-use crate::model::Reply;
 
 impl Card<'_> {
     /// The next atomic step of a core.
-    pub fn step(&mut self, core: usize) -> Answered {
+    pub fn step(&mut self, core: usize) -> Reply {
         let [running, task, of, ..] = self.cores[core];
         if running != 0 {
             return self.stage_of(core, running);
         }
         match task {
-            task::NONE => Ok(self.schedule(core)),
+            task::NONE => self.schedule(core),
             task::TRIGGER => self.trigger(core, of),
-            _ => {
-                self.wake(core, of)?;
+            _ if self.wake(core, of) => {
                 self.cores[core][..3].fill(0);
-                Ok(moved())
+                Reply::moved()
             }
+            _ => Reply::refused(FAULT),
         }
     }
 
     /// The step of the running process.
-    fn stage_of(&mut self, core: usize, p: u32) -> Answered {
+    fn stage_of(&mut self, core: usize, p: u32) -> Reply {
         match self.process(p)[process::PROGRESS] {
             stage @ 1..=5 => self.exchange(core, p, Side::Send, stage),
             stage @ 6..=10 => self.exchange(core, p, Side::Receive, stage - 5),
             stage @ 11..=19 => self.choice(core, p, stage),
-            _ => Err(AWAITED),
+            _ => Reply::refused(AWAITED),
         }
     }
 
@@ -77,7 +76,7 @@ impl Card<'_> {
         record[core::SIZE] -= 1;
         record[core::DISPATCH] -= 1;
         if due < 20 {
-            return moved();
+            return Reply::moved();
         }
         self.report(first, due, channel)
     }
@@ -95,7 +94,7 @@ impl Card<'_> {
             self.add_batch(core, first, first, 1);
             self.add_batch(core, second, last, size - 1);
         }
-        moved()
+        Reply::moved()
     }
 
     /// Puts a batch at the end of the run queue.
@@ -128,6 +127,6 @@ impl Card<'_> {
         record[core::SIZE] = size;
         record[core::DISPATCH] = (4 * size).min(32);
         record[core::MARK] = u32::from(size == 1);
-        moved()
+        Reply::moved()
     }
 }

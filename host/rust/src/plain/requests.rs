@@ -1,9 +1,9 @@
 //! Set-up and the requests.
 
 use super::records::{channel, core, due, place, process, room, sizes_fit, Card};
-use super::Answered;
+use super::Reply;
 use crate::model::number::*;
-use crate::model::{Number, Reply, Wiring};
+use crate::model::{Number, Wiring};
 
 /// Builds a table.
 pub fn set_up(table: &mut [u32], wiring: &Wiring) -> Number {
@@ -71,29 +71,42 @@ impl Card<'_> {
         Ok(())
     }
 
-    /// The running process sends.
-    pub fn send(&mut self, core: usize, channel: u32, value: u32) -> Answered {
+    /// The running process with nothing in hand, if it is this end of a channel.
+    fn requester_at(&mut self, core: usize, end: usize, channel: u32) -> Result<u32, Number> {
         let p = self.requester(core)?;
-        self.end_allowed(p, channel::WRITER, channel)?;
-        let record = self.process(p);
-        record[process::DATA] = value;
-        record[process::PROGRESS] = 1;
-        record[process::CHANNEL] = channel;
-        Ok(Reply::new(TAKEN, p, channel, 0))
+        self.end_allowed(p, end, channel)?;
+        Ok(p)
+    }
+
+    /// The running process sends.
+    pub fn send(&mut self, core: usize, channel: u32, value: u32) -> Reply {
+        match self.requester_at(core, channel::WRITER, channel) {
+            Ok(p) => {
+                self.process(p)[process::DATA] = value;
+                self.begin(p, 1, channel)
+            }
+            Err(refusal) => Reply::refused(refusal),
+        }
     }
 
     /// The running process receives.
-    pub fn receive(&mut self, core: usize, channel: u32) -> Answered {
-        let p = self.requester(core)?;
-        self.end_allowed(p, channel::READER, channel)?;
-        let record = self.process(p);
-        record[process::PROGRESS] = 6;
-        record[process::CHANNEL] = channel;
-        Ok(Reply::new(TAKEN, p, channel, 0))
+    pub fn receive(&mut self, core: usize, channel: u32) -> Reply {
+        match self.requester_at(core, channel::READER, channel) {
+            Ok(p) => self.begin(p, 6, channel),
+            Err(refusal) => Reply::refused(refusal),
+        }
     }
 
-    /// The running process chooses.
-    pub fn choose(&mut self, core: usize, guards: &[u32]) -> Answered {
+    /// The request starts at the look of this number.
+    fn begin(&mut self, p: u32, look: u32, channel: u32) -> Reply {
+        let record = self.process(p);
+        record[process::PROGRESS] = look;
+        record[process::CHANNEL] = channel;
+        Reply::new(TAKEN, p, channel, 0)
+    }
+
+    /// The running process, if it may choose over these guards.
+    fn chooser(&mut self, core: usize, guards: &[u32]) -> Result<u32, Number> {
         let p = self.requester(core)?;
         if guards.is_empty() || guards.len() > 8 {
             return Err(GUARDS);
@@ -104,28 +117,41 @@ impl Card<'_> {
                 return Err(TWICE);
             }
         }
+        Ok(p)
+    }
+
+    /// The running process chooses.
+    pub fn choose(&mut self, core: usize, guards: &[u32]) -> Reply {
+        let p = match self.chooser(core, guards) {
+            Ok(p) => p,
+            Err(refusal) => return Reply::refused(refusal),
+        };
         let record = self.process(p);
         record[process::ENABLING..=process::PROGRESS].copy_from_slice(&[1, 1, 0, 1, 11]);
         record[process::GUARD_COUNT] = guards.len() as u32;
         record[process::INDEX] = 1;
         record[process::GUARDS..][..guards.len()].copy_from_slice(guards);
-        Ok(Reply::new(TAKEN, p, 0, 0))
+        Reply::new(TAKEN, p, 0, 0)
     }
 
     /// The running process yields.
-    pub fn give_way(&mut self, core: usize) -> Answered {
-        let p = self.requester(core)?;
+    pub fn give_way(&mut self, core: usize) -> Reply {
+        let Ok(p) = self.requester(core) else {
+            return Reply::refused(BUSY);
+        };
         self.process(p)[process::PROGRESS] = due::GO;
         self.join(core, p);
         self.cores[core][core::RUNNING] = 0;
-        Ok(Reply::new(TAKEN, p, 0, 0))
+        Reply::new(TAKEN, p, 0, 0)
     }
 
     /// The running process ends.
-    pub fn end(&mut self, core: usize) -> Answered {
-        let p = self.requester(core)?;
+    pub fn end(&mut self, core: usize) -> Reply {
+        let Ok(p) = self.requester(core) else {
+            return Reply::refused(BUSY);
+        };
         self.process(p)[process::PLACE] = place::ENDED;
         self.cores[core][core::RUNNING] = 0;
-        Ok(Reply::new(TAKEN, p, 0, 0))
+        Reply::new(TAKEN, p, 0, 0)
     }
 }
