@@ -2,6 +2,7 @@
 .DEFAULT_GOAL := help
 CFLAGS := -std=c11 -O2 -Wall -Wextra -Werror -Iinclude -Ihost
 LIBRARY := target/staticlib/libfontarisca.a
+SHARED := host/card.c host/lent.c host/options.c
 HOSTS := target/host/ring target/host/collectors
 
 .PHONY: help run test hosts header bench clean
@@ -24,9 +25,9 @@ header: ## compile the header as C and as C++, and compare its numbers with docs
 $(LIBRARY): $(shell find crates -name '*.rt' -o -name '*.antt') crates.txt
 	rt staticlib fontarisca
 
-target/host/%: host/%.c host/card.c host/card.h include/fontarisca.h $(LIBRARY)
+target/host/%: host/%.c $(SHARED) $(wildcard host/*.h) include/fontarisca.h $(LIBRARY)
 	@mkdir -p target/host
-	$(CC) $(CFLAGS) $< host/card.c $(LIBRARY) -o $@
+	$(CC) $(CFLAGS) $< $(SHARED) $(LIBRARY) -o $@
 
 target/bench/libunchecked.a: $(LIBRARY) host/without-check
 	host/without-check

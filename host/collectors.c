@@ -1,6 +1,7 @@
 /* Collectors and an averager: each collector sends its readings on a channel of its own, the averager chooses over all of them. Whoever
  * gets the bus when, each channel's readings are the same: the program runs twice with two seeds and compares. */
 #include "card.h"
+#include "options.h"
 
 #include <stdio.h>
 #include <string.h>
@@ -45,7 +46,7 @@ static uint32_t averager_request(struct plant *plant, uint32_t core)
 }
 
 /* runs until nobody will run again; 0 where a call was refused */
-static int plant_run(struct plant *plant, uint32_t k, uint64_t seed)
+static int plant_run(struct plant *plant, enum lent_guard guard, uint32_t k, uint64_t seed)
 {
     uint32_t pairs[2 * COLLECTORS];
     for (uint32_t p = 1; p <= COLLECTORS; p++) {
@@ -53,7 +54,7 @@ static int plant_run(struct plant *plant, uint32_t k, uint64_t seed)
         pairs[2 * p - 1] = AVERAGER;
     }
     memset(plant, 0, sizeof *plant);
-    if (card_set_up(&plant->card, k, AVERAGER, COLLECTORS, pairs, seed) != FONTARISCA_BUILT)
+    if (card_set_up(&plant->card, guard, k, AVERAGER, COLLECTORS, pairs, seed) != FONTARISCA_BUILT)
         return 0;
     struct card *card = &plant->card;
     for (uint32_t idle = 0; idle < (1u << k) - 1;) {
@@ -82,33 +83,26 @@ static void print_readings(const struct plant *plant)
     }
 }
 
-static void usage(FILE *out)
-{
-    fprintf(out, "usage: collectors [--cores K] [--seed S]\n"
-                 "  8 collectors and an averager that chooses over their channels, on K cores (1 to 8, 4 if not said), run with the bus\n"
-                 "  orders of seed S and of seed S + 1 (0 to 4294967294, 1).\n");
-}
+static const char usage[] =
+    "usage: collectors [--cores K] [--seed S] [--guard end|start|none]\n"
+    "  8 collectors and an averager that chooses over their channels, on K cores (1 to 8, 4 if not said), run with the bus\n"
+    "  orders of seed S and of seed S + 1 (0 to 4294967294, 1). An access outside the lent slices ends the program where it\n"
+    "  goes past their end (end, if not said) or before their start (start);\n"
+    "  none takes them from the heap, for valgrind to watch.\n";
 
 int main(int argc, char **argv)
 {
     static struct plant one, other;
-    unsigned long cores = 4, seed = 1;
-    for (int i = 1; i < argc; i += 2) {
-        const char *value = i + 1 < argc ? argv[i + 1] : NULL;
-        if (strcmp(argv[i], "--help") == 0) {
-            usage(stdout);
-            return 0;
-        } else if (strcmp(argv[i], "--cores") == 0)
-            cores = card_option("--cores", value, 1, FONTARISCA_MAX_CORES);
-        else if (strcmp(argv[i], "--seed") == 0)
-            seed = card_option("--seed", value, 0, 4294967294ul);
-        else {
-            fprintf(stderr, "collectors: unknown option '%s'\n", argv[i]);
-            usage(stderr);
-            return 2;
-        }
-    }
-    if (!plant_run(&one, (uint32_t)cores, seed) || !plant_run(&other, (uint32_t)cores, seed + 1)) {
+    unsigned long cores = 4, seed = 1, guard = LENT_END;
+    const struct option options[] = {
+        {"--cores", &cores, 1, FONTARISCA_MAX_CORES, NULL},
+        {"--seed", &seed, 0, 4294967294ul, NULL},
+        {"--guard", &guard, 0, 0, lent_guards},
+        {NULL, NULL, 0, 0, NULL},
+    };
+    options_read("collectors", usage, options, argc, argv);
+    enum lent_guard side = (enum lent_guard)guard;
+    if (!plant_run(&one, side, (uint32_t)cores, seed) || !plant_run(&other, side, (uint32_t)cores, seed + 1)) {
         printf("WRONG: a call was refused\n");
         return 1;
     }
