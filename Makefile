@@ -1,4 +1,4 @@
-# Fontarisca: the two commands are `make run` and `make test`. Everything that is made goes below target/.
+# Fontarisca: the two commands are `make run` and `make test`. Everything that is made goes below target/, but for docs/BENCH.md (make bench).
 .DEFAULT_GOAL := help
 CFLAGS := -std=c11 -O2 -Wall -Wextra -Werror -Iinclude -Ihost
 SANITIZE := -fsanitize=address,undefined -fno-sanitize-recover=all -g
