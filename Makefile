@@ -1,22 +1,27 @@
-# Fontarisca: the two commands are `make run` and `make test`. Everything that is made goes below target/.
+# Fontarisca: the two commands are `make run` and `make test`. Everything that is made goes below target/, but for docs/BENCH.md (make bench).
 .DEFAULT_GOAL := help
 CFLAGS := -std=c11 -O2 -Wall -Wextra -Werror -Iinclude -Ihost
+SANITIZE := -fsanitize=address,undefined -fno-sanitize-recover=all -g
 LIBRARY := target/staticlib/libfontarisca.a
-HOSTS := target/host/ring target/host/collectors
+SHARED := host/card.c host/lent.c host/options.c
+SCENARIOS := target/host/ring target/host/collectors
+TRIALS := target/host/numbers target/host/outside
 
-.PHONY: help run test hosts header bench clean
+.PHONY: help run test hosts sanitized header bench clean
 
 help: ## list the targets
 	@grep -E '^[a-z]+:.*## ' $(MAKEFILE_LIST) | sed -E 's/^([a-z]+):.*## /  \1: /'
 
-run: hosts ## build the static library and the hosts, and run the ring and the collectors
+run: $(SCENARIOS) ## build the static library and the hosts, and run the ring and the collectors
 	target/host/ring
 	target/host/collectors
 
 test: ## test everything: what the gate runs
 	.ci/run
 
-hosts: $(HOSTS) ## build the hosts in C
+hosts: $(SCENARIOS) $(TRIALS) ## build the hosts in C and the programs that try the header and the guard pages
+
+sanitized: target/sanitized/ring target/sanitized/collectors target/sanitized/numbers ## build hosts with the compiler's sanitizers
 
 header: ## compile the header as C and as C++, and compare its numbers with docs/NUMBERS.md
 	host/test-header
@@ -24,13 +29,21 @@ header: ## compile the header as C and as C++, and compare its numbers with docs
 $(LIBRARY): $(shell find crates -name '*.rt' -o -name '*.antt') crates.txt
 	rt staticlib fontarisca
 
-target/host/%: host/%.c host/card.c host/card.h include/fontarisca.h $(LIBRARY)
+target/host/%: host/%.c $(SHARED) $(wildcard host/*.h) include/fontarisca.h $(LIBRARY)
 	@mkdir -p target/host
-	$(CC) $(CFLAGS) $< host/card.c $(LIBRARY) -o $@
+	$(CC) $(CFLAGS) $< $(SHARED) $(LIBRARY) -o $@
 
-bench: $(LIBRARY) ## time calls of the library and of the model on the ring, in one run
-	CARGO_TARGET_DIR=target/rust FONTARISCA_LIB=target/staticlib cargo build --release --offline --quiet --manifest-path host/rust/Cargo.toml
-	target/rust/release/bench
+target/sanitized/%: host/%.c $(SHARED) $(wildcard host/*.h) include/fontarisca.h $(LIBRARY)
+	@mkdir -p target/sanitized
+	$(CC) $(CFLAGS) $(SANITIZE) $< $(SHARED) $(LIBRARY) -o $@
+
+target/bench/libunchecked.a: $(LIBRARY) host/without-check
+	host/without-check
+
+bench: target/bench/libunchecked.a ## time the library, plain Rust and the model on the ring, and write docs/BENCH.md
+	CARGO_TARGET_DIR=target/rust FONTARISCA_LIB=target/staticlib cargo build --profile timed --offline --quiet \
+	    --manifest-path host/rust/Cargo.toml --features unchecked --bin bench
+	target/rust/timed/bench --page host/bench.template docs/BENCH.md
 
 clean: ## remove what was made
 	rm -rf target

@@ -1,11 +1,9 @@
 #include "card.h"
 
-#include <errno.h>
 #include <stdio.h>
-#include <stdlib.h>
 #include <string.h>
 
-static const char *const names[CARD_NUMBERS] = {
+const char *const card_names[CARD_NUMBERS] = {
     [FONTARISCA_BUILT] = "BUILT",     [FONTARISCA_TAKEN] = "TAKEN",         [FONTARISCA_MOVED] = "MOVED",     [FONTARISCA_SLEPT] = "SLEPT",
     [FONTARISCA_IDLE] = "IDLE",       [FONTARISCA_GO] = "GO",               [FONTARISCA_SENT] = "SENT",       [FONTARISCA_GOT] = "GOT",
     [FONTARISCA_CHOSE] = "CHOSE",     [FONTARISCA_SIZE] = "SIZE",           [FONTARISCA_PAIRS] = "PAIRS",     [FONTARISCA_ROOM] = "ROOM",
@@ -18,13 +16,13 @@ static const char *const names[CARD_NUMBERS] = {
 static uint32_t keep(struct card *card, uint32_t core, uint32_t number)
 {
     card->said[core] = number;
-    memcpy(card->words_said[core], card->answer, sizeof card->answer);
+    memcpy(card->words_said[core], card->answer, sizeof card->words_said[core]);
     if (number < CARD_NUMBERS)
         card->calls[number]++;
     return number;
 }
 
-uint32_t card_set_up(struct card *card, uint32_t k, uint32_t n, uint32_t m, const uint32_t *pairs, uint64_t seed)
+uint32_t card_set_up(struct card *card, enum lent_guard guard, uint32_t k, uint32_t n, uint32_t m, const uint32_t *pairs, uint64_t seed)
 {
     memset(card, 0, sizeof *card);
     card->words = FONTARISCA_TABLE_WORDS(k, n, m);
@@ -32,9 +30,22 @@ uint32_t card_set_up(struct card *card, uint32_t k, uint32_t n, uint32_t m, cons
     card->processes = n;
     card->channels = m;
     card->seed = seed;
+    card->lent_table = lent_memory(guard, card->words);
+    card->lent_answer = lent_memory(guard, FONTARISCA_ANSWER_WORDS);
+    card->lent_list = lent_memory(guard, 2 * (size_t)m + FONTARISCA_MAX_GUARDS);
+    card->table = lent_words(&card->lent_table, card->words);
+    card->answer = lent_words(&card->lent_answer, FONTARISCA_ANSWER_WORDS);
     for (uint32_t core = 0; core < FONTARISCA_MAX_CORES; core++)
         card->said[core] = FONTARISCA_IDLE;
-    return fontarisca_set_up(k, n, m, pairs, 2 * (size_t)m, card->table, card->words);
+    const uint32_t *list = lent_copy(&card->lent_list, pairs, 2 * (size_t)m);
+    return fontarisca_set_up(k, n, m, list, 2 * (size_t)m, card->table, card->words);
+}
+
+void card_return(struct card *card)
+{
+    lent_return(&card->lent_table);
+    lent_return(&card->lent_answer);
+    lent_return(&card->lent_list);
 }
 
 uint32_t card_next_core(struct card *card)
@@ -61,7 +72,13 @@ uint32_t card_receive(struct card *card, uint32_t core, uint32_t channel)
 
 uint32_t card_choose(struct card *card, uint32_t core, const uint32_t *guards, size_t count)
 {
-    return keep(card, core, fontarisca_choose(card->table, card->words, card->answer, 3, core, guards, count));
+    const uint32_t *list = lent_copy(&card->lent_list, guards, count);
+    return keep(card, core, fontarisca_choose(card->table, card->words, card->answer, 3, core, list, count));
+}
+
+uint32_t card_yield(struct card *card, uint32_t core)
+{
+    return keep(card, core, fontarisca_yield(card->table, card->words, card->answer, 3, core));
 }
 
 uint32_t card_end(struct card *card, uint32_t core)
@@ -95,17 +112,5 @@ void card_print_calls(const struct card *card)
 {
     for (int number = 0; number < CARD_NUMBERS; number++)
         if (card->calls[number] != 0)
-            printf("  %-10s %lu\n", names[number], card->calls[number]);
-}
-
-unsigned long card_option(const char *name, const char *text, unsigned long low, unsigned long high)
-{
-    char *end;
-    errno = 0;
-    unsigned long value = text == NULL ? 0 : strtoul(text, &end, 10);
-    if (text == NULL || *text < '0' || *text > '9' || *end != '\0' || errno != 0 || value < low || value > high) {
-        fprintf(stderr, "%s wants a whole number from %lu to %lu, not '%s'\n", name, low, high, text == NULL ? "" : text);
-        exit(2);
-    }
-    return value;
+            printf("  %2d %-10s %lu\n", number, card_names[number] == NULL ? "?" : card_names[number], card->calls[number]);
 }

@@ -2,10 +2,9 @@
  * round trips and checks that every token comes back with the right value. Who gets the bus is a seeded choice. */
 #define _POSIX_C_SOURCE 199309L
 #include "card.h"
+#include "options.h"
 
 #include <stdio.h>
-#include <stdlib.h>
-#include <string.h>
 #include <time.h>
 
 #define ELEMENTS 255
@@ -25,14 +24,14 @@ struct ring {
 static uint32_t channel_after(uint32_t p) { return p; }
 static uint32_t channel_before(uint32_t p) { return p == 1 ? PROCESSES : p - 1; }
 
-static uint32_t ring_set_up(struct ring *ring, uint32_t k, uint64_t seed)
+static uint32_t ring_set_up(struct ring *ring, enum lent_guard guard, uint32_t k, uint64_t seed)
 {
     uint32_t pairs[2 * PROCESSES];
     for (uint32_t p = 1; p <= PROCESSES; p++) {
         pairs[2 * p - 2] = p;
         pairs[2 * p - 1] = p == PROCESSES ? 1 : p + 1;
     }
-    return card_set_up(&ring->card, k, PROCESSES, PROCESSES, pairs, seed);
+    return card_set_up(&ring->card, guard, k, PROCESSES, PROCESSES, pairs, seed);
 }
 
 /* the initiator: all tokens out, then each that comes back is checked and sent out again until it has made its trips */
@@ -102,55 +101,63 @@ static double seconds(void)
     return (double)now.tv_sec + (double)now.tv_nsec / 1e9;
 }
 
-static void usage(FILE *out)
+static const char usage[] =
+    "usage: ring [--cores K] [--tokens T] [--trips R] [--seed S] [--guard end|start|none]\n"
+    "  A ring of 255 elements and one initiator on K cores (1 to 8, 4 if not said), with T tokens (1 to 255, 64) that\n"
+    "  each make R round trips (1 to 1000, 4). S chooses who gets the bus (0 to 4294967295, 1). An access outside the\n"
+    "  lent slices ends the program where it goes past their end (end, if not said) or before their start (start);\n"
+    "  none takes them from the heap, for valgrind to watch.\n";
+
+/* why the run was wrong, or NULL */
+static const char *flaw(const struct ring *ring, int ran)
 {
-    fprintf(out, "usage: ring [--cores K] [--tokens T] [--trips R] [--seed S]\n"
-                 "  A ring of 255 elements and one initiator on K cores (1 to 8, 4 if not said), with T tokens (1 to 255, 64)\n"
-                 "  that each make R round trips (1 to 1000, 4); S chooses who gets the bus (0 to 4294967295, 1).\n");
+    if (!ran)
+        return "a call was refused";
+    if (ring->wrong)
+        return "a token came back with another value";
+    if (ring->returned != ring->tokens * ring->trips)
+        return "not every token came back";
+    if (card_transfers(&ring->card) != ring->returned * PROCESSES)
+        return "the channels counted other transfers";
+    return NULL;
+}
+
+static void print_report(const struct ring *ring, unsigned long seed, double taken)
+{
+    const struct card *card = &ring->card;
+    unsigned long calls = card_calls(card);
+    printf("ring: K=%u, %d elements and one initiator, %lu tokens, %lu round trips each, seed %lu\n", card->cores, ELEMENTS, ring->tokens,
+           ring->trips, seed);
+    printf("round trips: %lu of %lu\n", ring->returned, ring->tokens * ring->trips);
+    printf("transfers: %lu\n", card_transfers(card));
+    printf("calls: %lu, %.2f microseconds each\n", calls, calls == 0 ? 0.0 : taken * 1e6 / (double)calls);
+    card_print_calls(card);
 }
 
 int main(int argc, char **argv)
 {
     static struct ring ring;
-    unsigned long cores = 4, tokens = 64, trips = 4, seed = 1;
-    for (int i = 1; i < argc; i += 2) {
-        const char *value = i + 1 < argc ? argv[i + 1] : NULL;
-        if (strcmp(argv[i], "--help") == 0) {
-            usage(stdout);
-            return 0;
-        } else if (strcmp(argv[i], "--cores") == 0)
-            cores = card_option("--cores", value, 1, FONTARISCA_MAX_CORES);
-        else if (strcmp(argv[i], "--tokens") == 0)
-            tokens = card_option("--tokens", value, 1, ELEMENTS);
-        else if (strcmp(argv[i], "--trips") == 0)
-            trips = card_option("--trips", value, 1, 1000);
-        else if (strcmp(argv[i], "--seed") == 0)
-            seed = card_option("--seed", value, 0, 4294967295ul);
-        else {
-            fprintf(stderr, "ring: unknown option '%s'\n", argv[i]);
-            usage(stderr);
-            return 2;
-        }
-    }
-    if (ring_set_up(&ring, (uint32_t)cores, seed) != FONTARISCA_BUILT) {
+    unsigned long cores = 4, seed = 1, guard = LENT_END;
+    ring.tokens = 64;
+    ring.trips = 4;
+    const struct option options[] = {
+        {"--cores", &cores, 1, FONTARISCA_MAX_CORES, NULL}, {"--tokens", &ring.tokens, 1, ELEMENTS, NULL},
+        {"--trips", &ring.trips, 1, 1000, NULL},            {"--seed", &seed, 0, 4294967295ul, NULL},
+        {"--guard", &guard, 0, 0, lent_guards},             {NULL, NULL, 0, 0, NULL},
+    };
+    options_read("ring", usage, options, argc, argv);
+    if (ring_set_up(&ring, (enum lent_guard)guard, (uint32_t)cores, seed) != FONTARISCA_BUILT) {
         fprintf(stderr, "ring: the table could not be built\n");
         return 1;
     }
-    ring.tokens = tokens;
-    ring.trips = trips;
     double from = seconds();
     int ran = ring_run(&ring);
-    double taken = seconds() - from;
-    unsigned long calls = card_calls(&ring.card);
-    printf("ring: K=%lu, %d elements and one initiator, %lu tokens, seed %lu\n", cores, ELEMENTS, tokens, seed);
-    printf("round trips: %lu of %lu\n", ring.returned, tokens * trips);
-    printf("transfers: %lu\n", card_transfers(&ring.card));
-    printf("calls: %lu, %.2f microseconds each\n", calls, calls == 0 ? 0.0 : taken * 1e6 / (double)calls);
-    card_print_calls(&ring.card);
-    if (!ran || ring.wrong || ring.returned != tokens * trips || card_transfers(&ring.card) != tokens * trips * PROCESSES) {
-        printf("WRONG: %s\n", !ran ? "a call was refused" : ring.wrong ? "a token came back with another value" : "not every token came back");
-        return 1;
-    }
-    printf("every token came back with the right value\n");
-    return 0;
+    print_report(&ring, seed, seconds() - from);
+    const char *why = flaw(&ring, ran);
+    if (why == NULL)
+        printf("every token came back with the right value\n");
+    else
+        printf("WRONG: %s\n", why);
+    card_return(&ring.card);
+    return why == NULL ? 0 : 1;
 }

@@ -45,6 +45,28 @@ impl Failure {
     }
 }
 
+/// Two machines on the same calls.
+pub struct Both {
+    pub one: Box<dyn Machine>,
+    pub other: Box<dyn Machine>,
+}
+
+/// What two machines that differ in anything return: a number of no call.
+const APART: Number = u32::MAX;
+
+impl Machine for Both {
+    fn call(&mut self, table: &mut [u32], answer: &mut [u32], call: &Call) -> Number {
+        let (mut other_table, mut other_answer) = (table.to_vec(), answer.to_vec());
+        let number = self.one.call(table, answer, call);
+        let other_number = self.other.call(&mut other_table, &mut other_answer, call);
+        if (number, &*table, &*answer) == (other_number, &other_table[..], &other_answer[..]) {
+            number
+        } else {
+            APART
+        }
+    }
+}
+
 /// The model's side of a run: its state, where the table is sound, and the table as it should be.
 struct Side {
     state: Option<State>,

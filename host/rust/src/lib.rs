@@ -8,5 +8,6 @@ pub mod library;
 pub mod model;
 pub mod mutants;
 pub mod order;
+pub mod plain;
 pub mod random;
 pub mod script;

@@ -18,11 +18,6 @@ pub fn open(_edge: Edge) -> Option<Box<dyn Machine>> {
     None
 }
 
-/// The library without its soundness check. The archive exports no such functions yet.
-pub fn open_unchecked(_edge: Edge) -> Option<Box<dyn Machine>> {
-    None
-}
-
 #[cfg(linked)]
 mod linked {
     use crate::lent::{Edge, Lent};

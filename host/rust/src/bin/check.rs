@@ -3,19 +3,30 @@
 use std::process::ExitCode;
 use std::time::Instant;
 
-use fontarisca_host::compare::{self, Options};
+use fontarisca_host::compare::{self, Both, Options};
 use fontarisca_host::lent::Edge;
 use fontarisca_host::model::{name, touched, Machine, Model};
+use fontarisca_host::plain::Plain;
 use fontarisca_host::{damage, library, mutants, order};
 
 const USAGE: &str = "check compare | damage | order | mutants
   --seed NUMBER                   the seed, to repeat a run (otherwise from the clock)
   --calls NUMBER                  calls (order: pairs with disjoint lists; mutants: of each test)
   --edge plain | end | start | all  on which side of the lent slices an inaccessible page lies
-  --subject library | model       what is checked (the library where it is linked)
+  --subject library | model | plain | both
+                                  what is checked (the library where it is linked; both: it and the plain version)
   --show                          prints every call before it is made
   --all                           mutants: every test on each, not only up to the first that catches it
   --says                          mutants: what the test that caught it says";
+
+/// What is checked.
+#[derive(Clone, Copy)]
+enum Subject {
+    Library,
+    Model,
+    Plain,
+    Both,
+}
 
 /// What the shell asks for.
 struct Wanted {
@@ -23,7 +34,7 @@ struct Wanted {
     seed: u64,
     calls: Option<u64>,
     edges: Vec<Edge>,
-    on_model: bool,
+    subject: Subject,
     show: bool,
     all: bool,
     says: bool,
@@ -58,15 +69,15 @@ fn read_arguments() -> Result<Wanted, String> {
     let clock = std::time::SystemTime::now().duration_since(std::time::UNIX_EPOCH);
     let seed = clock.map_or(1, |time| time.as_nanos() as u64 % 1_000_000_000);
     let edges = Edge::ALL.iter().map(|(edge, _)| *edge).collect();
-    let on_model = !library::LINKED;
-    let mut wanted = Wanted { what, seed, calls: None, edges, on_model, show: false, all: false, says: false };
+    let subject = if library::LINKED { Subject::Library } else { Subject::Model };
+    let mut wanted = Wanted { what, seed, calls: None, edges, subject, show: false, all: false, says: false };
     while let Some(argument) = arguments.next() {
         let mut value = || arguments.next().ok_or(format!("{argument} wants a value"));
         match argument.as_str() {
             "--seed" => wanted.seed = number(&value()?)?,
             "--calls" => wanted.calls = Some(number(&value()?)?),
             "--edge" => wanted.edges = edges_named(&value()?)?,
-            "--subject" => wanted.on_model = subject_is_model(&value()?)?,
+            "--subject" => wanted.subject = subject_named(&value()?)?,
             "--show" => wanted.show = true,
             "--all" => wanted.all = true,
             "--says" => wanted.says = true,
@@ -89,26 +100,30 @@ fn edges_named(text: &str) -> Result<Vec<Edge>, String> {
     Ok(edges)
 }
 
-fn subject_is_model(text: &str) -> Result<bool, String> {
+fn subject_named(text: &str) -> Result<Subject, String> {
     match text {
-        "model" => Ok(true),
-        "library" if library::LINKED => Ok(false),
-        "library" => Err("the library isn't linked: set FONTARISCA_LIB and build again".to_string()),
+        "model" => Ok(Subject::Model),
+        "plain" => Ok(Subject::Plain),
+        "library" if library::LINKED => Ok(Subject::Library),
+        "both" if library::LINKED => Ok(Subject::Both),
+        "library" | "both" => Err("the library isn't linked: set FONTARISCA_LIB and build again".to_string()),
         _ => Err(format!("no such subject: {text}")),
     }
 }
 
-/// What is checked, with its lists against this edge.
-fn subject(wanted: &Wanted, edge: Edge) -> Box<dyn Machine> {
-    match library::open(edge) {
-        Some(library) if !wanted.on_model => library,
-        _ => Box::new(Model),
+/// What is checked, with its lists against this edge; and its name.
+fn machine(subject: Subject, edge: Edge) -> (Box<dyn Machine>, &'static str) {
+    match (subject, library::open(edge)) {
+        (Subject::Library, Some(library)) => (library, "library"),
+        (Subject::Both, Some(one)) => (Box::new(Both { one, other: Box::new(Plain) }), "library and the plain version"),
+        (Subject::Plain, _) => (Box::new(Plain), "plain version"),
+        _ => (Box::new(Model), "model"),
     }
 }
 
 /// One check with one edge; says what it saw.
 fn run_check(wanted: &Wanted, edge: Edge, seed: u64) -> bool {
-    let mut machine = subject(wanted, edge);
+    let (mut machine, of) = machine(wanted.subject, edge);
     let usual = match wanted.what.as_str() {
         "compare" => 1_200_000,
         "damage" => 900_000,
@@ -116,7 +131,6 @@ fn run_check(wanted: &Wanted, edge: Edge, seed: u64) -> bool {
     };
     let calls = wanted.calls.unwrap_or(usual) / wanted.edges.len() as u64;
     let options = Options { seed, calls, edge, show: wanted.show };
-    let of = if wanted.on_model { "model" } else { "library" };
     println!("{} of the {of}: edge {}, seed {seed}, {calls} calls", wanted.what, edge.name());
     let start = Instant::now();
     let seen = match wanted.what.as_str() {
