@@ -70,10 +70,9 @@ fn number(text: &str) -> Result<usize, String> {
 
 /// Times and counts every size, prints the figures, and writes the page where one is wanted.
 fn measure(wanted: &Wanted) -> Result<(), String> {
+    let scripts = SIZES.map(|processes| ring::record(CORES, processes, wanted.calls));
     let mut measured = Vec::new();
-    for processes in SIZES {
-        let script = ring::record(CORES, processes, wanted.calls);
-        let row = timing::Row::of(&script, wanted.rounds);
+    for ((processes, script), row) in SIZES.into_iter().zip(&scripts).zip(timing::rows(&scripts, wanted.rounds)) {
         let counts = wanted.page.as_ref().and_then(|_| counting::counts(processes));
         measured.push(Measured { processes, row, counts, words: script.start.len(), steps: script.steps() });
     }

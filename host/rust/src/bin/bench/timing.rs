@@ -27,18 +27,22 @@ pub struct Row {
     pub model: Times,
 }
 
-impl Row {
-    /// Times the three in turn, so many rounds.
-    pub fn of(script: &Script, rounds: usize) -> Row {
-        let mut best = [Best::new(script), Best::new(script), Best::new(script)];
-        for _ in 0..rounds {
+/// Times the three on each script in turn, so many rounds.
+pub fn rows(scripts: &[Script], rounds: usize) -> Vec<Row> {
+    let new = |script: &Script| [Best::new(script), Best::new(script), Best::new(script)];
+    let mut all: Vec<[Best; 3]> = scripts.iter().map(new).collect();
+    for _ in 0..rounds {
+        for (script, best) in scripts.iter().zip(&mut all) {
             best[0].round(script, &mut Library);
             best[1].round(script, &mut Plain);
             best[2].round(script, &mut Modelled { state: None });
         }
+    }
+    let row = |(script, best): (&Script, [Best; 3])| {
         let [library, plain, model] = best.map(|best| best.times(script));
         Row { library, plain, model }
-    }
+    };
+    scripts.iter().zip(all).map(row).collect()
 }
 
 /// The best time of each stretch so far.
