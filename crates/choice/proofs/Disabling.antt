@@ -29,11 +29,11 @@ use Rattle.parts.specs.Shared.{asleep-table}
 use Rattle.parts.proofs.Card.{card-inside, stage-valid}
 use Rattle.parts.proofs.Packs.{IsProcess, still-process, process-read, asleep-written}
 use Rattle.parts.proofs.Flags.{clear-flag, set-flag}
-use Rattle.choice.specs.Read.{word-of, guard-word-at, AtGuard, stage-table, next-table, flags-table, kept-table}
-use Rattle.choice.proofs.Guards.{Chooses, at-chooses, index-reads, ready-reads, count-is, same-guard, other-guard, next-packs}
-use Rattle.choice.proofs.Guards.{alternation-chooses, ready-chooses, word-chooses}
-use Rattle.choice.proofs.Rules.{kept-number, lowered-fault, lowered-on}
-use Rattle.choice.proofs.Stands.{Stands, disabling-stands, guard-among, guard-is, has-guard, found-word}
+use Rattle.guards.specs.Read.{word-of, guard-word-at, AtGuard, stage-table, next-table, flags-table, kept-table}
+use Rattle.guards.proofs.Guards.{Chooses, at-chooses, index-reads, ready-reads, count-is, same-guard, other-guard, next-packs}
+use Rattle.guards.proofs.Guards.{alternation-chooses, ready-chooses, word-chooses}
+use Rattle.guards.proofs.Rules.{kept-number, lowered-fault, lowered-on}
+use Rattle.guards.proofs.Stands.{Stands, disabling-stands, guard-among, guard-is, has-guard, found-word}
 
 -- Two changes of one process's progress are one.
 pub put-twice : (s : State) (p : ℕ) (x y : Progress) → IsProcess s p → put progress p y (put progress p x s) ≡ put progress p y s

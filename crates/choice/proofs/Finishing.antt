@@ -27,9 +27,9 @@ use Rattle.parts.proofs.Card.{card-inside, card-process, work-valid, stage-vali
 use Rattle.parts.proofs.Packs.{Packs, IsProcess, card-packs, still-process, process-read, alternation-written, fresh-written, progress-cleared}
 use Rattle.parts.proofs.Packs.{task-written, asleep-written}
 use Rattle.parts.proofs.Flags.{set-flag, unset-flag}
-use Rattle.choice.specs.Read.{word-of, triggered-table}
-use Rattle.choice.proofs.Guards.{Chooses, at-chooses, ready-reads, guard-reads, count-is, alternation-chooses}
-use Rattle.choice.proofs.Rules.{ready-range, first-fault, first-on, lowered-fault, lowered-on}
+use Rattle.guards.specs.Read.{word-of, triggered-table}
+use Rattle.guards.proofs.Guards.{Chooses, at-chooses, ready-reads, guard-reads, count-is, alternation-chooses}
+use Rattle.guards.proofs.Rules.{ready-range, first-fault, first-on, lowered-fault, lowered-on}
 
 -- Finish
 

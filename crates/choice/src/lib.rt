@@ -1,160 +1,24 @@
-// The steps of choosing (document 01; 000, section 4.1), for the process p that runs on core k, and the kernel task trigger.
+// The steps of a choice once its guards are enabled (document 01; 000, section 4.1), for the process p that runs on core k, and the kernel
+// task trigger.
 ghost use mathlib.Core.Path.{_≡_};
-ghost use Prim.Native.Nat.{_+_, _≤_, _<_};
+ghost use Prim.Native.Nat.{_+_};
 ghost use lib.Dec.{eqb};
-ghost use lib.ListN.{length, getD, set};
 ghost use Rattle.rules.specs.Lists.{if_then_else_};
 ghost use Rattle.rules.specs.Numbers.{MOVED, yes-with};
-ghost use Rattle.rules.specs.State.{enable-look, raise, place-name, ready-from-look, ready-from-place, wait, disable, lower, finish};
+ghost use Rattle.rules.specs.State.{wait, disable, lower, finish};
 ghost use Rattle.rules.specs.State.{trigger, free};
 ghost use Rattle.rules.specs.Items.{core-of};
-ghost use Rattle.rules.specs.Choice.{enable-look-step, raise-step, place-step, ready-from-look-step, ready-from-place-step, wait-step};
+ghost use Rattle.rules.specs.Choice.{wait-step};
 ghost use Rattle.rules.specs.Choice.{disable-step, lower-step, finish-step, trigger-step};
-ghost use Rattle.rules.specs.Packing.{process-at, view};
+ghost use Rattle.rules.specs.Packing.{view};
 ghost use Rattle.answers.specs.Four.{four};
 ghost use Rattle.table.specs.Has.{HasCore, HasProcess};
 ghost use Rattle.parts.specs.Shared.{task-table};
 ghost use Rattle.parts.specs.Does.{Card, At, Does};
-ghost use Rattle.choice.specs.Read.{guards-at, index-at, ready-at, guard-at, guard-word-at, AtGuard};
-ghost use Rattle.choice.specs.Read.{stage-table, next-table, flags-table, kept-table, triggered-table};
+ghost use Rattle.guards.specs.Read.{guards-at, index-at, ready-at};
+ghost use Rattle.guards.specs.Read.{next-table, flags-table, kept-table, triggered-table};
 use answers::Reply;
 use words::Holder;
-
-// The guard at index i, counted from 1.
-fn guard(t: &[u32], cores: usize, p: u32, i: u32) -> u32
-    requires { ⌜ (1 ≤ p) × (process-at cores p (11 + i) < length (now t)) ⌝ }
-    ensures { λ r. ⌜ r ≡ getD (now (t .entry)) (process-at cores p (11 + i)) 0 ⌝ }
-{
-    table::process_word(t, cores, p, 11 + i as usize)
-}
-
-// The channel of the guard that the choice has come to.
-fn guard_now(t: &[u32], cores: usize, processes: usize, p: u32) -> u32
-    requires { ⌜ AtGuard (now t) cores processes p ⌝ }
-    ensures { λ r. ⌜ r ≡ guard-at (now (t .entry)) cores p ⌝ }
-{
-    let i = table::process_word(t, cores, p, 10);
-    guard(t, cores, p, i)
-}
-
-// The word of that channel.
-fn guard_word(t: &[u32], cores: usize, processes: usize, p: u32) -> u32
-    requires { ⌜ AtGuard (now t) cores processes p ⌝ }
-    ensures { λ r. ⌜ r ≡ getD (now (t .entry)) (guard-word-at (now (t .entry)) cores processes p) 0 ⌝ }
-{
-    let c = guard_now(t, cores, processes, p);
-    table::channel_word(t, cores, processes, c, 2)
-}
-
-// That word becomes v.
-fn set_guard_word(t: &mut [u32], cores: usize, processes: usize, p: u32, v: u32)
-    requires { ⌜ AtGuard (now t) cores processes p ⌝ }
-    ensures { λ r. ⌜ now (t .exit) ≡ set (now (t .entry)) (guard-word-at (now (t .entry)) cores processes p) v ⌝ }
-{
-    let c = guard_now(t, cores, processes, p);
-    table::set_channel_word(t, cores, processes, c, 2, v);
-}
-
-// Process p is at the guard of number g, in the stage of number n.
-fn set_stage(t: &mut [u32], cores: usize, p: u32, g: u32, n: u32)
-    requires { ⌜ HasProcess (now t) cores p ⌝ }
-    ensures { λ r. ⌜ now (t .exit) ≡ stage-table (now (t .entry)) cores p g n ⌝ }
-{
-    let i = p as usize;
-    t[8 + 16 * cores + 24 * (i - 1) + 10] = g;
-    t[8 + 16 * cores + 24 * (i - 1) + 6] = n;
-}
-
-// The choice goes on there.
-fn goes_on(t: &mut [u32], cores: usize, p: u32, g: u32, n: u32) -> Reply
-    requires { ⌜ HasProcess (now t) cores p ⌝ }
-    ensures table { λ r. ⌜ now (t .exit) ≡ stage-table (now (t .entry)) cores p g n ⌝ }
-    ensures reply { λ r. ⌜ r ≡ four (yes-with MOVED) ⌝ }
-{
-    set_stage(t, cores, p, g, n);
-    answers::moved()
-}
-
-// The next guard, at the stage of number `again`; after the last guard the stage of number `after`.
-fn next_guard(t: &mut [u32], cores: usize, p: u32, again: u32, after: u32) -> Reply
-    requires { ⌜ HasProcess (now t) cores p ⌝ }
-    ensures table { λ r. ⌜ now (t .exit) ≡ next-table (now (t .entry)) cores p again after ⌝ }
-    ensures reply { λ r. ⌜ r ≡ four (yes-with MOVED) ⌝ }
-{
-    let guards = table::process_word(t, cores, p, 9);
-    let i = table::process_word(t, cores, p, 10);
-    if i < guards {
-        goes_on(t, cores, p, i + 1, again)
-    } else {
-        goes_on(t, cores, p, 0, after)
-    }
-}
-
-// Enabling, look: word 0: next raise; otherwise next ready.
-pub fn enable_look(t: &mut [u32], cores: usize, processes: usize, k: usize, p: u32) -> Reply
-    requires { ⌜ At (now t) cores processes k p (enable-look (guards-at (now t) cores p) (index-at (now t) cores p)) ⌝ }
-    ensures { λ r. ⌜ Does (enable-look-step p (guards-at (now (t .entry)) cores p) (index-at (now (t .entry)) cores p))
-        (now (t .entry)) r (now (t .exit)) ⌝ }
-{
-    if guard_word(t, cores, processes, p) == 0 {
-        parts::move_on(t, cores, p, 12)
-    } else {
-        parts::move_on(t, cores, p, 14)
-    }
-}
-
-// Raise: count + 1.
-pub fn raise_count(t: &mut [u32], cores: usize, processes: usize, k: usize, p: u32) -> Reply
-    requires { ⌜ At (now t) cores processes k p (raise (guards-at (now t) cores p) (index-at (now t) cores p)) ⌝ }
-    ensures { λ r. ⌜ Does (raise-step p (guards-at (now (t .entry)) cores p) (index-at (now (t .entry)) cores p))
-        (now (t .entry)) r (now (t .exit)) ⌝ }
-{
-    let count = table::process_word(t, cores, p, 5);
-    if count == 9 {
-        return answers::refused(answers::FAULT);
-    }
-    table::set_process_word(t, cores, p, 5, count + 1);
-    parts::move_on(t, cores, p, 13)
-}
-
-// Place: if the word is still 0 it becomes one's name with the low bit set; otherwise next ready.
-pub fn place_name(t: &mut [u32], cores: usize, processes: usize, k: usize, p: u32) -> Reply
-    requires { ⌜ At (now t) cores processes k p (place-name (guards-at (now t) cores p) (index-at (now t) cores p)) ⌝ }
-    ensures { λ r. ⌜ Does (place-step p (guards-at (now (t .entry)) cores p) (index-at (now (t .entry)) cores p))
-        (now (t .entry)) r (now (t .exit)) ⌝ }
-{
-    if guard_word(t, cores, processes, p) == 0 {
-        set_guard_word(t, cores, processes, p, words::choosing_name(p));
-        next_guard(t, cores, p, 11, 16)
-    } else {
-        parts::move_on(t, cores, p, 15)
-    }
-}
-
-// Ready, from look: clear not-ready.
-pub fn ready_from_look(t: &mut [u32], cores: usize, processes: usize, k: usize, p: u32) -> Reply
-    requires { ⌜ At (now t) cores processes k p (ready-from-look (guards-at (now t) cores p) (index-at (now t) cores p)) ⌝ }
-    ensures { λ r. ⌜ Does (ready-from-look-step p (guards-at (now (t .entry)) cores p) (index-at (now (t .entry)) cores p))
-        (now (t .entry)) r (now (t .exit)) ⌝ }
-{
-    table::set_process_word(t, cores, p, 3, 0);
-    next_guard(t, cores, p, 11, 16)
-}
-
-// Ready, from place: clear not-ready, and count - 1.
-pub fn ready_from_place(t: &mut [u32], cores: usize, processes: usize, k: usize, p: u32) -> Reply
-    requires { ⌜ At (now t) cores processes k p (ready-from-place (guards-at (now t) cores p) (index-at (now t) cores p)) ⌝ }
-    ensures { λ r. ⌜ Does (ready-from-place-step p (guards-at (now (t .entry)) cores p) (index-at (now (t .entry)) cores p))
-        (now (t .entry)) r (now (t .exit)) ⌝ }
-{
-    let count = table::process_word(t, cores, p, 5);
-    if count == 0 {
-        return answers::refused(answers::FAULT);
-    }
-    table::set_process_word(t, cores, p, 3, 0);
-    table::set_process_word(t, cores, p, 5, count - 1);
-    next_guard(t, cores, p, 11, 16)
-}
 
 // The flags of process p: enabling, not-ready, waiting.
 fn set_flags(t: &mut [u32], cores: usize, p: u32, enabling: u32, unready: u32, waiting: u32)
@@ -174,10 +38,10 @@ pub fn wait_for(t: &mut [u32], cores: usize, processes: usize, k: usize, p: u32)
 {
     if table::process_word(t, cores, p, 3) == 0 {
         table::set_process_word(t, cores, p, 2, 0);
-        goes_on(t, cores, p, 1, 17)
+        guards::goes_on(t, cores, p, 1, 17)
     } else {
         set_flags(t, cores, p, 0, 0, 1);
-        set_stage(t, cores, p, 1, 17);
+        guards::set_stage(t, cores, p, 1, 17);
         parts::falls_asleep(t, cores, k, p, 0, 0)
     }
 }
@@ -198,7 +62,7 @@ fn goes_on_ready(t: &mut [u32], cores: usize, p: u32, again: u32, after: u32) ->
     let kept = table::process_word(t, cores, p, 11);
     let i = table::process_word(t, cores, p, 10);
     table::set_process_word(t, cores, p, 11, first_ready(kept, i));
-    next_guard(t, cores, p, again, after)
+    guards::next_guard(t, cores, p, again, after)
 }
 
 // Disable: one's own name becomes 0, next lower; a process's plain name: the guard is ready, the first such is kept; otherwise not.
@@ -208,16 +72,16 @@ pub fn disable_guard(t: &mut [u32], cores: usize, processes: usize, k: usize, p:
         (disable-step p (guards-at (now (t .entry)) cores p) (index-at (now (t .entry)) cores p) (ready-at (now (t .entry)) cores p))
         (now (t .entry)) r (now (t .exit)) ⌝ }
 {
-    let found = words::who_stands(guard_word(t, cores, processes, p));
+    let found = words::who_stands(guards::guard_word(t, cores, processes, p));
     match found {
-        Holder::Nobody => next_guard(t, cores, p, 17, 19),
+        Holder::Nobody => guards::next_guard(t, cores, p, 17, 19),
         Holder::Plain(_) => goes_on_ready(t, cores, p, 17, 19),
         Holder::Choosing(q) => {
             if q == p {
-                set_guard_word(t, cores, processes, p, 0);
+                guards::set_guard_word(t, cores, processes, p, 0);
                 parts::move_on(t, cores, p, 18)
             } else {
-                next_guard(t, cores, p, 17, 19)
+                guards::next_guard(t, cores, p, 17, 19)
             }
         }
     }
@@ -234,7 +98,7 @@ pub fn lower_count(t: &mut [u32], cores: usize, processes: usize, k: usize, p: u
         return answers::refused(answers::FAULT);
     }
     table::set_process_word(t, cores, p, 5, count - 1);
-    next_guard(t, cores, p, 17, 19)
+    guards::next_guard(t, cores, p, 17, 19)
 }
 
 // Finish: no ready guard is a fault; count - 1; at 0 CHOSE with the first ready guard; above 0 asleep, with CHOSE due.
@@ -251,7 +115,7 @@ pub fn finish_choice(t: &mut [u32], cores: usize, processes: usize, k: usize, p:
     if count == 0 {
         return answers::refused(answers::FAULT);
     }
-    let c = guard(t, cores, p, ready);
+    let c = guards::guard(t, cores, p, ready);
     table::set_process_word(t, cores, p, 5, count - 1);
     if count == 1 {
         parts::reports(t, cores, p, 23, c)

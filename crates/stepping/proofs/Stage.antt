@@ -19,7 +19,7 @@ use Rattle.answers.specs.declared.Reply.{Reply}
 use Rattle.parts.specs.Does.{At, Comes, Does, of-way}
 use Rattle.parts.proofs.Card.{card-process, work-valid, N-is}
 use Rattle.parts.proofs.Seen.{progress-seen}
-use Rattle.choice.specs.Read.{guards-at, index-at, ready-at}
+use Rattle.guards.specs.Read.{guards-at, index-at, ready-at}
 use Rattle.table.specs.Has.{HasProcess}
 use Rattle.stepping.specs.Running.{Running}
 

@@ -42,11 +42,11 @@ fn enabling(t: &mut [u32], cores: usize, processes: usize, k: usize, p: u32, n: 
     ensures { λ r. ⌜ Does (step k) (now (t .entry)) r (now (t .exit)) ⌝ }
 {
     match n {
-        11 => choice::enable_look(t, cores, processes, k, p),
-        12 => choice::raise_count(t, cores, processes, k, p),
-        13 => choice::place_name(t, cores, processes, k, p),
-        14 => choice::ready_from_look(t, cores, processes, k, p),
-        _ => choice::ready_from_place(t, cores, processes, k, p),
+        11 => enabling::enable_look(t, cores, processes, k, p),
+        12 => enabling::raise_count(t, cores, processes, k, p),
+        13 => enabling::place_name(t, cores, processes, k, p),
+        14 => enabling::ready_from_look(t, cores, processes, k, p),
+        _ => enabling::ready_from_place(t, cores, processes, k, p),
     }
 }
 

@@ -1,5 +1,5 @@
 use native.Mathlib.Omega.{arith}
-use Rattle.choice.proofs.Stands.{at-process}
+use Rattle.guards.proofs.Stands.{at-process}
 use Rattle.choice.proofs.Disabling.{disable-guard, disable-nobody, disable-ready, disable-own, disable-other}
 use borrow.Author.Needs.{needs}
 use Rattle.choice.proofs.disable_guard.Statement.{statement}

@@ -1,5 +1,5 @@
 use native.Mathlib.Omega.{arith}
-use Rattle.choice.proofs.Stands.{at-process, at-core}
+use Rattle.guards.proofs.Stands.{at-process, at-core}
 use Rattle.choice.proofs.Finishing.{finish-guard, finish-none, finish-fault, finish-now, finish-later}
 use borrow.Author.Needs.{needs}
 use Rattle.choice.proofs.finish_choice.Statement.{statement}

@@ -1,5 +1,5 @@
 use native.Mathlib.Omega.{arith}
-use Rattle.choice.proofs.Stands.{at-process}
+use Rattle.guards.proofs.Stands.{at-process}
 use Rattle.choice.proofs.Disabling.{lower-fault, lower-done}
 use borrow.Author.Needs.{needs}
 use Rattle.choice.proofs.lower_count.Statement.{statement}

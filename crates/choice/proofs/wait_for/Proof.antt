@@ -1,5 +1,5 @@
 use native.Mathlib.Omega.{arith}
-use Rattle.choice.proofs.Stands.{at-process, at-core}
+use Rattle.guards.proofs.Stands.{at-process, at-core}
 use Rattle.choice.proofs.Disabling.{wait-ready, wait-asleep}
 use borrow.Author.Needs.{needs}
 use Rattle.choice.proofs.wait_for.Statement.{statement}

@@ -1,9 +1,9 @@
 use native.Mathlib.Omega.{arith}
-use Rattle.choice.proofs.Stands.{at-process}
-use Rattle.choice.proofs.Enabling.{ready-place-fault, ready-place-done}
+use Rattle.guards.proofs.Stands.{at-process}
+use Rattle.enabling.proofs.Enabling.{ready-place-fault, ready-place-done}
 use borrow.Author.Needs.{needs}
-use Rattle.choice.proofs.ready_from_place.Statement.{statement}
-use Rattle.choice.proofs.ready_from_place.Tie as tie
+use Rattle.enabling.proofs.ready_from_place.Statement.{statement}
+use Rattle.enabling.proofs.ready_from_place.Tie as tie
 
 process-word-requires : tie.Need-process-word-requires
 process-word-requires c κs =

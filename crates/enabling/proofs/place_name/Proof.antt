@@ -1,9 +1,9 @@
 use native.Mathlib.Omega.{arith}
-use Rattle.choice.proofs.Stands.{at-process}
-use Rattle.choice.proofs.Enabling.{place-guard, place-small, place-free, place-held}
+use Rattle.guards.proofs.Stands.{at-process}
+use Rattle.enabling.proofs.Enabling.{place-guard, place-small, place-free, place-held}
 use borrow.Author.Needs.{needs}
-use Rattle.choice.proofs.place_name.Statement.{statement}
-use Rattle.choice.proofs.place_name.Tie as tie
+use Rattle.enabling.proofs.place_name.Statement.{statement}
+use Rattle.enabling.proofs.place_name.Tie as tie
 
 guard-word-requires : tie.Need-guard-word-requires
 guard-word-requires c κs = search (needs, place-guard)

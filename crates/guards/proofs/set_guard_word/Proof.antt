@@ -1,7 +1,7 @@
 -- The guard that is read is the table's.
 use borrow.Author.Needs.{needs}
-use Rattle.choice.proofs.set_guard_word.Statement.{statement}
-use Rattle.choice.proofs.set_guard_word.Tie as tie
+use Rattle.guards.proofs.set_guard_word.Statement.{statement}
+use Rattle.guards.proofs.set_guard_word.Tie as tie
 
 guard-now-requires : tie.Need-guard-now-requires
 guard-now-requires c κs = search needs

@@ -1,10 +1,10 @@
-use Rattle.choice.proofs.Enabling.{raise-small}
+use Rattle.enabling.proofs.Enabling.{raise-small}
 use native.Mathlib.Omega.{arith}
-use Rattle.choice.proofs.Stands.{at-process}
-use Rattle.choice.proofs.Enabling.{raise-fault, raise-done}
+use Rattle.guards.proofs.Stands.{at-process}
+use Rattle.enabling.proofs.Enabling.{raise-fault, raise-done}
 use borrow.Author.Needs.{needs}
-use Rattle.choice.proofs.raise_count.Statement.{statement}
-use Rattle.choice.proofs.raise_count.Tie as tie
+use Rattle.enabling.proofs.raise_count.Statement.{statement}
+use Rattle.enabling.proofs.raise_count.Tie as tie
 
 process-word-requires : tie.Need-process-word-requires
 process-word-requires c κs =

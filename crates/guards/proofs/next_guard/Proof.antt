@@ -4,10 +4,10 @@ use native.Mathlib.Omega.{arith}
 use lib.Dec.{ltb}
 use denote.Ref.{now}
 use borrow.Author.Tests.{lt-ltb, le-ltb}
-use Rattle.choice.specs.Read.{word-of, next-table}
+use Rattle.guards.specs.Read.{word-of, next-table}
 use borrow.Author.Needs.{needs}
-use Rattle.choice.proofs.next_guard.Statement.{statement}
-use Rattle.choice.proofs.next_guard.Tie as tie
+use Rattle.guards.proofs.next_guard.Statement.{statement}
+use Rattle.guards.proofs.next_guard.Tie as tie
 
 process-word-requires : tie.Need-process-word-requires
 process-word-requires c κs = search needs

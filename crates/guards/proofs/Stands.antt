@@ -17,9 +17,9 @@ use Rattle.parts.specs.Does.{Card, At}
 use Rattle.parts.proofs.Card.{facts, card-core, card-process, card-channel, name-fits, runs-process}
 use Rattle.parts.proofs.Packs.{IsChannel, channel-read, who-stands}
 use Rattle.table.specs.Has.{HasCore, HasProcess, HasChannel}
-use Rattle.choice.specs.Read.{word-of, guard-at, guard-word-at, AtGuard}
-use Rattle.choice.proofs.Rules.{word-nobody}
-use Rattle.choice.proofs.Guards.{Chooses, at-chooses, guard-range, index-reads, guard-reads}
+use Rattle.guards.specs.Read.{word-of, guard-at, guard-word-at, AtGuard}
+use Rattle.guards.proofs.Rules.{word-nobody}
+use Rattle.guards.proofs.Guards.{Chooses, at-chooses, guard-range, index-reads, guard-reads}
 
 -- The table has the words of the process that runs, and of its core.
 module _ {t : List ℕ} {cores processes k p : ℕ} {x : Stage} (at : At t cores processes k p x) where

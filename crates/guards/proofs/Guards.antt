@@ -24,7 +24,7 @@ use Rattle.parts.specs.Does.{At}
 use Rattle.parts.proofs.Card.{own-end-range, runs-range}
 use Rattle.parts.proofs.Packs.{Packs, IsProcess, IsChannel, card-packs, still-process, progress-kept, process-read, progress-read, word-written}
 use Rattle.parts.proofs.Packs.{alternation-written, progress-written}
-use Rattle.choice.specs.Read.{word-of, stage-table, next-table}
+use Rattle.guards.specs.Read.{word-of, stage-table, next-table}
 
 -- The table packs s, and process p is at a stage of a choice with this number, these guards, this index and first ready guard.
 pub record Chooses (t : List ℕ) (cores processes : ℕ) (s : State) (p n : ℕ) (gs : List ℕ) (i : ℕ) (r : Option ℕ) : Type 0 where

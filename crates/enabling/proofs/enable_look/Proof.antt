@@ -1,9 +1,9 @@
 use native.Mathlib.Omega.{arith}
-use Rattle.choice.proofs.Enabling.{look-guard, look-free, look-held}
-use Rattle.choice.proofs.Stands.{at-process}
+use Rattle.enabling.proofs.Enabling.{look-guard, look-free, look-held}
+use Rattle.guards.proofs.Stands.{at-process}
 use borrow.Author.Needs.{needs}
-use Rattle.choice.proofs.enable_look.Statement.{statement}
-use Rattle.choice.proofs.enable_look.Tie as tie
+use Rattle.enabling.proofs.enable_look.Statement.{statement}
+use Rattle.enabling.proofs.enable_look.Tie as tie
 
 guard-word-requires : tie.Need-guard-word-requires
 guard-word-requires c κs = search (needs, look-guard)

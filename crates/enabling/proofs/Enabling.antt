@@ -18,10 +18,10 @@ use Rattle.answers.specs.Four.{four}
 use Rattle.answers.specs.declared.Reply.{Reply}
 use Rattle.parts.specs.Does.{At, Comes, Does}
 use Rattle.parts.proofs.Card.{facts, stage-valid}
-use Rattle.choice.specs.Read.{word-of, guard-word-at, AtGuard, next-table}
-use Rattle.choice.proofs.Guards.{Chooses, at-chooses, count-is, same-guard, next-packs, alternation-chooses, word-chooses}
-use Rattle.choice.proofs.Rules.{lowered-fault, lowered-on, raised-fault, raised-on}
-use Rattle.choice.proofs.Stands.{Stands, enabling-stands, guard-among, guard-is, has-guard, word-is, free-word, number-small}
+use Rattle.guards.specs.Read.{word-of, guard-word-at, AtGuard, next-table}
+use Rattle.guards.proofs.Guards.{Chooses, at-chooses, count-is, same-guard, next-packs, alternation-chooses, word-chooses}
+use Rattle.guards.proofs.Rules.{lowered-fault, lowered-on, raised-fault, raised-on}
+use Rattle.guards.proofs.Stands.{Stands, enabling-stands, guard-among, guard-is, has-guard, word-is, free-word, number-small}
 
 -- From a guard that is enabled the choice goes to the next.
 enabled-packs : {t : List ℕ} {cores processes : ℕ} {s : State} {p n : ℕ} {gs : List ℕ} {i : ℕ} → Chooses t cores processes s p n gs i none

@@ -1,7 +1,7 @@
 -- The index that is read is the table's.
 use borrow.Author.Needs.{needs}
-use Rattle.choice.proofs.guard_now.Statement.{statement}
-use Rattle.choice.proofs.guard_now.Tie as tie
+use Rattle.guards.proofs.guard_now.Statement.{statement}
+use Rattle.guards.proofs.guard_now.Tie as tie
 
 process-word-requires : tie.Need-process-word-requires
 process-word-requires c κs = search needs

@@ -1,9 +1,9 @@
 use native.Mathlib.Omega.{arith}
-use Rattle.choice.proofs.Stands.{at-process}
-use Rattle.choice.proofs.Enabling.{ready-look-done}
+use Rattle.guards.proofs.Stands.{at-process}
+use Rattle.enabling.proofs.Enabling.{ready-look-done}
 use borrow.Author.Needs.{needs}
-use Rattle.choice.proofs.ready_from_look.Statement.{statement}
-use Rattle.choice.proofs.ready_from_look.Tie as tie
+use Rattle.enabling.proofs.ready_from_look.Statement.{statement}
+use Rattle.enabling.proofs.ready_from_look.Tie as tie
 
 set-process-word-requires : tie.Need-set-process-word-requires
 set-process-word-requires c κs =
