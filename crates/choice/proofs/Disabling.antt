@@ -16,7 +16,7 @@ use Rattle.rules.specs.Items.{process-of, no-process, put, alternation, progres
 use Rattle.rules.specs.Rule.{Rule, run, becomes, _>>_}
 use Rattle.rules.specs.Steps.{next}
 use Rattle.rules.specs.Choice.{guard, counting, flags, waits, wait-step, disable-next, keep-first, disabled, disable-step, lower-step}
-use Rattle.rules.specs.Packing.{ready-number, progress-words, pack, view, word-from, process-at, channel-at}
+use Rattle.rules.specs.Packing.{ready-number, progress-words, pack, view, word-numbered, process-at, channel-at}
 use Rattle.rules.specs.Soundness.{own-guards, in-list, ready-in-list}
 use Rattle.rules.proofs.Tests.{three}
 use Rattle.words.specs.Meaning.{meaning}
@@ -114,18 +114,18 @@ module _ {t : List ℕ} {cores processes k p : ℕ} {gs : List ℕ} where
 
     -- the code has found h in the word, whose number it read as n
     module _ {found h : Holder} {n : ℕ} (finds : found ≡ h) (reads : n ≡ getD t (guard-word-at t cores processes p) 0)
-        (made : meaning found ≡ word-from n) where
+        (made : meaning found ≡ word-numbered n) where
       by-word : (r : Reply) (u : List ℕ) → Comes (run (disabled p gs i x (meaning h)) (view t)) t r u → Does (disable-step p gs i x) t r u
       by-word r u =
           subst (λ (y : ChannelWord). Comes (run (disabled p gs i x y) (view t)) t r u)
-          (sym (ap meaning finds) ∙ made ∙ ap word-from reads ∙ found-word disable-stands)
+          (sym (ap meaning finds) ∙ made ∙ ap word-numbered reads ∙ found-word disable-stands)
 
     module _ {found : Holder} {n : ℕ} {r : Reply} {u : List ℕ} where
-      pub disable-nobody : found ≡ Nobody → n ≡ getD t (guard-word-at t cores processes p) 0 → meaning found ≡ word-from n
+      pub disable-nobody : found ≡ Nobody → n ≡ getD t (guard-word-at t cores processes p) 0 → meaning found ≡ word-numbered n
           → r ≡ four (yes-with MOVED) → u ≡ next-table t cores p 17 19 → Does (disable-step p gs i x) t r u
       disable-nobody finds reads made a b = by-word finds reads made r u (a, b ∙ disabled-packs (disable-stands .chooses))
 
-      pub disable-ready : {q : ℕ} → found ≡ Plain q → n ≡ getD t (guard-word-at t cores processes p) 0 → meaning found ≡ word-from n
+      pub disable-ready : {q : ℕ} → found ≡ Plain q → n ≡ getD t (guard-word-at t cores processes p) 0 → meaning found ≡ word-numbered n
           → r ≡ four (yes-with MOVED) → u ≡ next-table (kept-table t cores p) cores p 17 19 → Does (disable-step p gs i x) t r u
       unfolding progress-words
       disable-ready finds reads made a b =
@@ -139,7 +139,7 @@ module _ {t : List ℕ} {cores processes k p : ℕ} {gs : List ℕ} where
                 ∙ ap pack (put-twice (view t) p _ _ (disable-stands .chooses .among)),
           )
 
-      pub disable-own : {q : ℕ} → found ≡ Choosing q → n ≡ getD t (guard-word-at t cores processes p) 0 → meaning found ≡ word-from n → q ≡ p
+      pub disable-own : {q : ℕ} → found ≡ Choosing q → n ≡ getD t (guard-word-at t cores processes p) 0 → meaning found ≡ word-numbered n → q ≡ p
           → r ≡ four (yes-with MOVED) → u ≡ set (set t (guard-word-at t cores processes p) 0) (process-at cores p 6) 18
           → Does (disable-step p gs i x) t r u
       unfolding progress-words
@@ -151,7 +151,7 @@ module _ {t : List ℕ} {cores processes k p : ℕ} {gs : List ℕ} where
                 ∙ same-guard (word-chooses (disable-stands .chooses) (guard gs i) (guard-among disable-stands) nobody) (lower gs i x) 18 refl,
           ))
 
-      pub disable-other : {q : ℕ} → found ≡ Choosing q → n ≡ getD t (guard-word-at t cores processes p) 0 → meaning found ≡ word-from n
+      pub disable-other : {q : ℕ} → found ≡ Choosing q → n ≡ getD t (guard-word-at t cores processes p) 0 → meaning found ≡ word-numbered n
           → (q ≡ p → ⊥) → r ≡ four (yes-with MOVED) → u ≡ next-table t cores p 17 19 → Does (disable-step p gs i x) t r u
       disable-other {q} finds reads made other a b =
           by-word finds reads made r u (rw (ne-eqb q p other) (a, b ∙ disabled-packs (disable-stands .chooses)))

@@ -11,7 +11,7 @@ use Rattle.rules.specs.State.{plain, choosing, State}
 use Rattle.rules.specs.Items.{process-of, channel-of, put, alternation, progress}
 use Rattle.rules.specs.Rule.{Rule, run, becomes, _>>_}
 use Rattle.rules.specs.Steps.{next}
-use Rattle.rules.specs.Choice.{guard, counting, flags, enable-next, after-enable-look, enable-look-step, placed, place-step, raise-step}
+use Rattle.rules.specs.Choice.{guard, counting, flags, enable-next, after-enable-look, enable-look-step, name-placed, place-name-step, raise-step}
 use Rattle.rules.specs.Choice.{ready-from-look-step, ready-from-place-step}
 use Rattle.rules.specs.Packing.{of-choice, progress-words, pack, view, word-number, process-at, channel-at}
 use Rattle.answers.specs.Four.{four}
@@ -113,9 +113,9 @@ module _ {t : List ℕ} {cores processes k p : ℕ} {gs : List ℕ} {i : ℕ} wh
 
     -- the word is nobody's
     pub place-free : {r : Reply} {u : List ℕ} → getD t (guard-word-at t cores processes p) 0 ≡ 0 → r ≡ four (yes-with MOVED)
-        → u ≡ next-table (set t (guard-word-at t cores processes p) (word-number (choosing p))) cores p 11 16 → Does (place-step p gs i) t r u
+        → u ≡ next-table (set t (guard-word-at t cores processes p) (word-number (choosing p))) cores p 11 16 → Does (place-name-step p gs i) t r u
     place-free {r} {u} e a b =
-        subst (λ (w : ChannelWord). Comes (run (placed p gs i w) (view t)) t r u) (sym (free-word place-stands e)) (
+        subst (λ (w : ChannelWord). Comes (run (name-placed p gs i w) (view t)) t r u) (sym (free-word place-stands e)) (
           a,
           b ∙ ap (λ (c : ℕ). next-table (set t (channel-at cores processes c 2) (word-number (choosing p))) cores p 11 16) (guard-is place-stands)
               ∙ enabled-packs (word-chooses (place-stands .chooses) (guard gs i) (guard-among place-stands) (choosing p)),
@@ -123,14 +123,14 @@ module _ {t : List ℕ} {cores processes k p : ℕ} {gs : List ℕ} {i : ℕ} wh
 
     -- it is somebody's
     pub place-held : {r : Reply} {u : List ℕ} → (getD t (guard-word-at t cores processes p) 0 ≡ 0 → ⊥) → r ≡ four (yes-with MOVED)
-        → u ≡ set t (process-at cores p 6) 15 → Does (place-step p gs i) t r u
+        → u ≡ set t (process-at cores p 6) 15 → Does (place-name-step p gs i) t r u
     unfolding progress-words
     place-held {r} {u} ne a b = cases (channel-of (view t) (guard gs i) .word) (λ e. ne (word-is place-stands ∙ e))
       where
         ready : u ≡ pack (put progress p (doing (ready-from-place gs i)) (view t))
         ready = b ∙ same-guard (place-stands .chooses) (ready-from-place gs i) 15 refl
 
-        cases : (w : ChannelWord) → (word-number w ≡ 0 → ⊥) → Comes (run (placed p gs i w) (view t)) t r u
+        cases : (w : ChannelWord) → (word-number w ≡ 0 → ⊥) → Comes (run (name-placed p gs i w) (view t)) t r u
         cases nobody some = absurd (some refl)
         cases (plain q) some = (a, ready)
         cases (choosing q) some = (a, ready)

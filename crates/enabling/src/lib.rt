@@ -1,7 +1,7 @@
 // The steps that enable the guards of a choice (document 01; 000, section 4.1), for the process p that runs on core k.
 ghost use Prim.Native.Nat.{_+_};
 ghost use Rattle.rules.specs.State.{enable-look, raise, place-name, ready-from-look, ready-from-place};
-ghost use Rattle.rules.specs.Choice.{enable-look-step, raise-step, place-step, ready-from-look-step, ready-from-place-step};
+ghost use Rattle.rules.specs.Choice.{enable-look-step, raise-step, place-name-step, ready-from-look-step, ready-from-place-step};
 ghost use Rattle.parts.specs.Does.{At, Does};
 ghost use Rattle.guards.specs.Read.{guards-at, index-at};
 use answers::Reply;
@@ -36,7 +36,7 @@ pub fn raise_count(t: &mut [u32], cores: usize, processes: usize, k: usize, p: u
 // Place: if the word is still 0 it becomes one's name with the low bit set; otherwise next ready.
 pub fn place_name(t: &mut [u32], cores: usize, processes: usize, k: usize, p: u32) -> Reply
     requires { ⌜ At (now t) cores processes k p (place-name (guards-at (now t) cores p) (index-at (now t) cores p)) ⌝ }
-    ensures { λ r. ⌜ Does (place-step p (guards-at (now (t .entry)) cores p) (index-at (now (t .entry)) cores p))
+    ensures { λ r. ⌜ Does (place-name-step p (guards-at (now (t .entry)) cores p) (index-at (now (t .entry)) cores p))
         (now (t .entry)) r (now (t .exit)) ⌝ }
 {
     if guards::guard_word(t, cores, processes, p) == 0 {

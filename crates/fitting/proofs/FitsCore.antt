@@ -7,7 +7,7 @@ use native.Mathlib.Omega.{arith}
 use lib.Dec.{T, eqb, leb, eqb→eq, leb→le, le→leb, eqb·suc-zero}
 use Rattle.rules.specs.Lists.{if_then_else_, within, bit}
 use Rattle.rules.specs.State.{Wiring}
-use Rattle.rules.specs.Packing.{work-words, core-at, core-word, work-from}
+use Rattle.rules.specs.Packing.{work-words, core-at, word-of-core, work-numbered}
 use Rattle.rules.specs.Soundness.{is-process, valid-work}
 use Rattle.rules.proofs.Tests.{both, three, four}
 use Rattle.fitting.proofs.Tests.{equal-holds, within-holds, all-three, all-four, zeros-mean, zeros-hold, bit-means, bit-holds}
@@ -19,7 +19,7 @@ work-fits N p task q = if eqb p 0 then task-fits N task q else (leb p N && eqb t
 
 -- the work that is read out of three words is valid, and these are its words
 abbrev pub GoodWork : Wiring → ℕ → ℕ → ℕ → Type 0
-GoodWork w p task q = T (valid-work w (work-from p task q)) × (work-words (work-from p task q) ≡ p ∷ task ∷ q ∷ [])
+GoodWork w p task q = T (valid-work w (work-numbered p task q)) × (work-words (work-numbered p task q) ≡ p ∷ task ∷ q ∷ [])
 
 module _ (w : Wiring) where
   -- the work that is read out of words that fit
@@ -52,28 +52,28 @@ module _ (w : Wiring) where
 
 -- the words of a core that belong to no queue are those of a valid core
 pub record FlatCore (w : Wiring) (t : List ℕ) (k : ℕ) : Type 0 where
-  pub work : GoodWork w (core-word t k 0) (core-word t k 1) (core-word t k 2)
-  pub dispatch : core-word t k 6 ≤ 32
-  pub mark : bit (eqb (core-word t k 7) 1) ≡ core-word t k 7
+  pub work : GoodWork w (word-of-core t k 0) (word-of-core t k 1) (word-of-core t k 2)
+  pub dispatch : word-of-core t k 6 ≤ 32
+  pub mark : bit (eqb (word-of-core t k 7) 1) ≡ word-of-core t k 7
   pub unused : (f : ℕ) → f < 6 → word t (core-at k 10 + f) ≡ 0
 
 module _ (w : Wiring) (t : List ℕ) (k : ℕ) where
   -- What the test of these words says,
   pub core-fits-means : T (core-fits t (w .N) k) → FlatCore w t k
   core-fits-means h =
-      let r = four (work-fits (w .N) (core-word t k 0) (core-word t k 1) (core-word t k 2)) (leb (core-word t k 6) 32) (leb (core-word t k 7) 1)
+      let r = four (work-fits (w .N) (word-of-core t k 0) (word-of-core t k 1) (word-of-core t k 2)) (leb (word-of-core t k 6) 32) (leb (word-of-core t k 7) 1)
       (zeros t (core-at k 10) 6) h in
       record {
-        work = work-means w (core-word t k 0) (core-word t k 1) (core-word t k 2) (r .0);
-        dispatch = leb→le (core-word t k 6) 32 (r .1);
-        mark = bit-means (core-word t k 7) (r .2);
+        work = work-means w (word-of-core t k 0) (word-of-core t k 1) (word-of-core t k 2) (r .0);
+        dispatch = leb→le (word-of-core t k 6) 32 (r .1);
+        mark = bit-means (word-of-core t k 7) (r .2);
         unused = zeros-mean t (core-at k 10) 6 (r .3);
       }
 
   -- and what says as much.
   pub means-core-fits : FlatCore w t k → T (core-fits t (w .N) k)
   means-core-fits h =
-      all-four (work-fits (w .N) (core-word t k 0) (core-word t k 1) (core-word t k 2)) (leb (core-word t k 6) 32) (leb (core-word t k 7) 1)
+      all-four (work-fits (w .N) (word-of-core t k 0) (word-of-core t k 1) (word-of-core t k 2)) (leb (word-of-core t k 6) 32) (leb (word-of-core t k 7) 1)
       (zeros t (core-at k 10) 6)
-      (means-work w (core-word t k 0) (core-word t k 1) (core-word t k 2) (h .work)) (le→leb (core-word t k 6) 32 (h .dispatch))
-      (bit-holds (eqb (core-word t k 7) 1) (core-word t k 7) (h .mark)) (zeros-hold t (core-at k 10) 6 (h .unused))
+      (means-work w (word-of-core t k 0) (word-of-core t k 1) (word-of-core t k 2) (h .work)) (le→leb (word-of-core t k 6) 32 (h .dispatch))
+      (bit-holds (eqb (word-of-core t k 7) 1) (word-of-core t k 7) (h .mark)) (zeros-hold t (core-at k 10) 6 (h .unused))

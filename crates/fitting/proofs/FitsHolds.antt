@@ -24,8 +24,8 @@ use Rattle.rules.specs.Packing.{
   K-of,
   N-of,
   M-of,
-  core-word,
-  process-word,
+  word-of-core,
+  word-of-process,
   view-core,
   view-process,
   view,
@@ -90,12 +90,12 @@ module _ (t : List ℕ) (words : (i : ℕ) → getD t i 0 < 4294967296) (h : Fit
   -- what follows p in a queue of this core is p's link
   abbrev LinkFollows : ℕ → Core → Type 0
   LinkFollows p x =
-      (i : ℕ) → i < length (queues-of x) → 1 ≤ times p (getD (queues-of x) i []) → follows p (getD (queues-of x) i []) ≡ process-word t p 20
+      (i : ℕ) → i < length (queues-of x) → 1 ≤ times p (getD (queues-of x) i []) → follows p (getD (queues-of x) i []) ≡ word-of-process t p 20
 
   -- it is, on each core that fits
   queue-follows : (k : ℕ) → k < K-of t → (p : ℕ) → LinkFollows p (view-core t k)
   queue-follows k b p zero c m =
-      linked-follows (next-of t) (core-word t k 3) (view-core t k .active) (h .cores k b .active .linked) p m
+      linked-follows (next-of t) (word-of-core t k 3) (view-core t k .active) (h .cores k b .active .linked) p m
   queue-follows k b p (suc i) c m =
       let l = getD (view-core t k .run-queue) i [] in
       let e : l ≡ batch-of t (first l) = batch-is t some k i (omega arith) in
@@ -105,11 +105,11 @@ module _ (t : List ℕ) (words : (i : ℕ) → getD t i 0 < 4294967296) (h : Fit
 
   module _ (p : ℕ) (l : 1 ≤ p) (b : p ≤ N-of t) where
     -- the word 20: who follows
-    next-is : next-link s p ≡ process-word t p 20
+    next-is : next-link s p ≡ word-of-process t p 20
     unfolding in-queues
     next-is = cases (leb 1 (in-queues s p)) refl
       where
-        found : 1 ≤ in-queues s p → next-link s p ≡ process-word t p 20
+        found : 1 ≤ in-queues s p → next-link s p ≡ word-of-process t p 20
         found m =
             let c = positive-term (λ (c : Core). total (times p) (queues-of c)) (s .cores) no-core m in
             let k = c .0 in
@@ -118,7 +118,7 @@ module _ (t : List ℕ) (words : (i : ℕ) → getD t i 0 < 4294967296) (h : Fit
             next-follows s v k (c .1) (q .0) (q .1) p (q .2)
             ∙ subst (LinkFollows p) (sym (core-of-view t k d)) (queue-follows k d p) (q .0) (q .1) (q .2)
 
-        cases : (y : Bool) → leb 1 (in-queues s p) ≡ y → next-link s p ≡ process-word t p 20
+        cases : (y : Bool) → leb 1 (in-queues s p) ≡ y → next-link s p ≡ word-of-process t p 20
         cases true e = found (leb-true 1 (in-queues s p) e)
         cases false e =
             let none : in-queues s p ≡ 0 = omega (arith, leb-false 1 (in-queues s p) e) in
@@ -127,7 +127,7 @@ module _ (t : List ℕ) (words : (i : ℕ) → getD t i 0 < 4294967296) (h : Fit
     -- the words 21 to 23: what a batch's head keeps
     abbrev HeadWords : Type 0
     HeadWords =
-        (head-link last s p ≡ process-word t p 21) × (head-link length s p ≡ process-word t p 22) × (batch-link s p ≡ process-word t p 23)
+        (head-link last s p ≡ word-of-process t p 21) × (head-link length s p ≡ word-of-process t p 22) × (batch-link s p ≡ word-of-process t p 23)
 
     -- of a process that heads a batch
     heads-found : 1 ≤ heads-in s p → HeadWords
@@ -151,7 +151,7 @@ module _ (t : List ℕ) (words : (i : ℕ) → getD t i 0 < 4294967296) (h : Fit
           keeps last ∙ sym (last-from-zero (batch-of t p)) ∙ sym (queue .last-is),
           keeps length ∙ sym (zero-add (length (batch-of t p))) ∙ sym (queue .size-is) ∙ ap (word t) (omega arith),
           batch-follows s v k (c .1) p (c .2) ∙ ap (follows p) all-heads
-              ∙ linked-follows (batch-behind t) (core-word t k 8) (heads-of t k) (x .linked) p stands,
+              ∙ linked-follows (batch-behind t) (word-of-core t k 8) (heads-of t k) (x .linked) p stands,
         )
 
     -- of one that heads none
@@ -164,31 +164,31 @@ module _ (t : List ℕ) (words : (i : ℕ) → getD t i 0 < 4294967296) (h : Fit
         )
 
     -- the link words of a process
-    links-are : link-words s p ≡ tabulate (process-word t p) 20 4
+    links-are : link-words s p ≡ tabulate (word-of-process t p) 20 4
     links-are = cases (leb 1 (heads-in s p)) refl
       where
-        all-of : HeadWords → link-words s p ≡ tabulate (process-word t p) 20 4
+        all-of : HeadWords → link-words s p ≡ tabulate (word-of-process t p) 20 4
         all-of x = cc (next-is, x .0, x .1, x .2)
 
-        cases : (y : Bool) → leb 1 (heads-in s p) ≡ y → link-words s p ≡ tabulate (process-word t p) 20 4
+        cases : (y : Bool) → leb 1 (heads-in s p) ≡ y → link-words s p ≡ tabulate (word-of-process t p) 20 4
         cases true e = all-of (heads-found (leb-true 1 (heads-in s p) e))
         cases false e = all-of (heads-none (omega (arith, leb-false 1 (heads-in s p) e)))
 
     -- the words of a process
-    process-is : process-words s p ≡ tabulate (process-word t p) 0 24
+    process-is : process-words s p ≡ tabulate (word-of-process t p) 0 24
     unfolding process-words
     process-is =
         let r : process-of s p ≡ view-process t p = process-of-view t p l b in
-        let state : state-words (process-of s p) ≡ tabulate (process-word t p) 0 6 = ap state-words r ∙ h .processes p l b .state in
-        let progress : progress-words (process-of s p .progress) ≡ tabulate (process-word t p) 6 14 =
+        let state : state-words (process-of s p) ≡ tabulate (word-of-process t p) 0 6 = ap state-words r ∙ h .processes p l b .state in
+        let progress : progress-words (process-of s p .progress) ≡ tabulate (word-of-process t p) 6 14 =
         ap (λ (x : Process). progress-words (x .progress)) r ∙ h .processes p l b .words in
         λ i. state i ++ (progress i ++ links-are i)
 
   -- the words of a core
-  core-is : (k : ℕ) → k < K-of t → core-words (view-core t k) ≡ tabulate (core-word t k) 0 16
+  core-is : (k : ℕ) → k < K-of t → core-words (view-core t k) ≡ tabulate (word-of-core t k) 0 16
   unfolding core-words view-core
   core-is k b =
-      let w = core-word t k in
+      let w = word-of-core t k in
       let c = view-core t k in
       let flat = flat-core t words h k b in
       let fits = h .cores k b in
@@ -243,10 +243,10 @@ module _ (t : List ℕ) (words : (i : ℕ) → getD t i 0 < 4294967296) (h : Fit
         header = λ f b. block-word (word t) 8 f (header-words s) header-is b;
         core = λ k f b c.
             let d = inside k b in
-            block-word (core-word t k) 16 f (core-words (core-of s k)) (ap core-words (core-of-view t k d) ∙ core-is k d) c;
+            block-word (word-of-core t k) 16 f (core-words (core-of s k)) (ap core-words (core-of-view t k d) ∙ core-is k d) c;
         process = λ p f l b c.
             let d : p ≤ N-of t = subst (λ (n : ℕ). p ≤ n) (processes-of-view t) b in
-            rw cores-of-view (block-word (process-word t p) 24 f (process-words s p) (process-is p l d) c);
+            rw cores-of-view (block-word (word-of-process t p) 24 f (process-words s p) (process-is p l d) c);
         channel = λ c f l b d.
             let e : c ≤ M-of t = subst (λ (n : ℕ). c ≤ n) (channels-of-view t) b in
             rw (cores-of-view, processes-of-view)

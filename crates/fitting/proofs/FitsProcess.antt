@@ -11,7 +11,7 @@ use lib.ListN.{getD}
 use borrow.Author.Tests.{ne-eqb}
 use Rattle.rules.specs.Lists.{within, tabulate}
 use Rattle.rules.specs.State.{Place, running, queued, asleep, ended, wiring}
-use Rattle.rules.specs.Packing.{place-number, progress-words, K-of, N-of, M-of, process-at, process-word, place-from, view-process, view}
+use Rattle.rules.specs.Packing.{place-number, progress-words, K-of, N-of, M-of, process-at, word-of-process, place-numbered, view-process, view}
 use Rattle.rules.specs.Soundness.{valid-progress, fits, stands}
 use Rattle.rules.proofs.Tests.{both, together, within-means}
 use Rattle.rules.proofs.Packing.ReadLaws.{state-words}
@@ -20,7 +20,7 @@ use Rattle.fitting.proofs.FitsProgress.{progress-exact, places-are}
 use Rattle.fitting.specs.Twin.{word, zeros, place-fits, meeting-fits, progress-fits, process-fits}
 
 -- a number that fits is that of a place
-place-known : (place n : ℕ) → T (place-fits place n) → place-number (place-from place) ≡ place
+place-known : (place n : ℕ) → T (place-fits place n) → place-number (place-numbered place) ≡ place
 place-known zero n h = absurd h
 place-known (suc zero) n h = refl
 place-known (suc (suc zero)) n h = refl
@@ -36,13 +36,13 @@ pub record FlatProcess (t : List ℕ) (p : ℕ) : Type 0 where
   pub count : view-process t p .alternation .count ≤ 9
   pub progress : T (valid-progress (wiring (view t)) p (view-process t p .progress))
   pub places : T (fits (view-process t p .place) (view-process t p .progress))
-  pub state : state-words (view-process t p) ≡ tabulate (process-word t p) 0 6
-  pub words : progress-words (view-process t p .progress) ≡ tabulate (process-word t p) 6 14
+  pub state : state-words (view-process t p) ≡ tabulate (word-of-process t p) 0 6
+  pub words : progress-words (view-process t p .progress) ≡ tabulate (word-of-process t p) 6 14
 
 module _ (t met : List ℕ) (p : ℕ) where
   -- the words of the process
   abbrev w : ℕ → ℕ
-  w = process-word t p
+  w = word-of-process t p
 
   -- the test of what was met
   abbrev meeting : Bool
@@ -62,7 +62,7 @@ module _ (t met : List ℕ) (p : ℕ) where
           let u = both (leb (w 2) 1 && leb (w 3) 1 && leb (w 4) 1 && leb (w 5) 9 && place-fits (w 0) (w 6) && meeting) progress h in
           let v = six (leb (w 2) 1) (leb (w 3) 1) (leb (w 4) 1) (leb (w 5) 9) (place-fits (w 0) (w 6)) meeting (u .0) in
           let x = progress-exact t p .0 (u .1) in
-          let place : place-number (place-from (w 0)) ≡ w 0 = place-known (w 0) (w 6) (v .4) in (
+          let place : place-number (place-numbered (w 0)) ≡ w 0 = place-known (w 0) (w 6) (v .4) in (
             record {
               count = leb→le (w 5) 9 (v .3);
               progress = x .0;
@@ -77,7 +77,7 @@ module _ (t met : List ℕ) (p : ℕ) where
       back h =
           let x = progress-exact t p .1 (h .0 .progress, h .0 .words) in
           let state = h .0 .state in
-          let place : place-number (place-from (w 0)) ≡ w 0 = cc in
+          let place : place-number (place-numbered (w 0)) ≡ w 0 = cc in
           let good : T (place-fits (w 0) (w 6)) = rw (places-are t p x, place) at (h .0 .places) in
           together (leb (w 2) 1 && leb (w 3) 1 && leb (w 4) 1 && leb (w 5) 9 && place-fits (w 0) (w 6) && meeting) progress
           (all-six (leb (w 2) 1) (leb (w 3) 1) (leb (w 4) 1) (leb (w 5) 9) (place-fits (w 0) (w 6)) meeting

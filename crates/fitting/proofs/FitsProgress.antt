@@ -21,9 +21,9 @@ use Rattle.rules.specs.Packing.{
   N-of,
   M-of,
   process-at,
-  process-word,
-  ready-from,
-  progress-from,
+  word-of-process,
+  ready-numbered,
+  progress-numbered,
   view-process,
   view,
 }
@@ -64,12 +64,12 @@ optional-either true b x y c = (λ h. (h, refl), λ h. h .0)
 optional-either false b x y c = optional b y c
 
 -- a first ready guard lies in the list where its number is no greater than the list's length
-ready-in-list-is : (gs : List ℕ) (r : ℕ) → ready-in-list gs (ready-from r) ≡ leb r (length gs)
+ready-in-list-is : (gs : List ℕ) (r : ℕ) → ready-in-list gs (ready-numbered r) ≡ leb r (length gs)
 ready-in-list-is gs zero = sym (leb·zero (length gs))
 ready-in-list-is gs (suc r) = rw eqb·suc-zero (ap (λ (b : Bool). b && leb (suc r) (length gs)) (le-leb 1 (suc r) (omega arith)))
 
 -- the number of a first ready guard, if it means something
-ready-number-is : (has : Bool) (r : ℕ) → ready-number (if has then ready-from r else none) ≡ (if has then r else 0)
+ready-number-is : (has : Bool) (r : ℕ) → ready-number (if has then ready-numbered r else none) ≡ (if has then r else 0)
 ready-number-is true zero = refl
 ready-number-is true (suc r) = rw eqb·suc-zero
 ready-number-is false r = refl
@@ -129,12 +129,12 @@ module _ (t : List ℕ) (p : ℕ) where
   guards-at = process-at (K-of t) p 12
 
   -- the eight words of the guards, by their addresses
-  guard-words : tabulate (process-word t p) 12 8 ≡ tabulate (word t) guards-at 8
-  guard-words = tabulate-as (process-word t p) (word t) 12 guards-at 8 (λ i. ap (word t) (omega arith))
+  guard-words : tabulate (word-of-process t p) 12 8 ≡ tabulate (word t) guards-at 8
+  guard-words = tabulate-as (word-of-process t p) (word t) 12 guards-at 8 (λ i. ap (word t) (omega arith))
 
   -- the guards that are read out: as many as the word g says
   abbrev guards-read : ℕ → List ℕ
-  guards-read g = take g (tabulate (process-word t p) 12 8)
+  guards-read g = take g (tabulate (word-of-process t p) 12 8)
 
   module _ (g : ℕ) where
     -- the guards that are read out, by their addresses
@@ -151,7 +151,7 @@ module _ (t : List ℕ) (p : ℕ) where
     abbrev GuardsRead : Bool → Type 0
     GuardsRead has =
         T (if has then own-guards w p (guards-read g) else true) × (length (if has then guards-read g else []) ≡ g)
-        × (padded 8 (if has then guards-read g else []) ≡ tabulate (process-word t p) 12 8)
+        × (padded 8 (if has then guards-read g else []) ≡ tabulate (word-of-process t p) 12 8)
 
     -- what the test of a choice's guards says
     choice-means : T (guards-tests true) → GuardsRead true
@@ -203,7 +203,7 @@ module _ (t : List ℕ) (p : ℕ) where
 
     -- the progress that is read out of these words
     abbrev read : Progress
-    read = progress-from n c q gs i (ready-from r)
+    read = progress-numbered n c q gs i (ready-numbered r)
 
     -- the tests of channel, partner, index, first ready guard and guards, and all of them
     abbrev channel-test : Bool
@@ -235,7 +235,7 @@ module _ (t : List ℕ) (p : ℕ) where
     index-valid = if has-index n then in-list gs i else true
 
     abbrev ready-valid : Bool
-    ready-valid = if has-ready n then ready-in-list gs (ready-from r) else true
+    ready-valid = if has-ready n then ready-in-list gs (ready-numbered r) else true
 
     abbrev guards-valid : Bool
     guards-valid = if has-guards n then own-guards w p gs else true
@@ -255,16 +255,16 @@ module _ (t : List ℕ) (p : ℕ) where
     index-exact e = rw e (optional (has-index n) (within 1 g i) i)
 
     -- and of the first ready guard.
-    ready-exact : length gs ≡ g → T ready-test ↔ (T ready-valid × (ready-number (if has-ready n then ready-from r else none) ≡ r))
+    ready-exact : length gs ≡ g → T ready-test ↔ (T ready-valid × (ready-number (if has-ready n then ready-numbered r else none) ≡ r))
     ready-exact e = rw (ready-in-list-is, ready-number-is, e) (optional (has-ready n) (leb r g) r)
 
     -- the progress is valid and has these words
     abbrev Good : Type 0
-    Good = T (valid-progress w p read) × (progress-words read ≡ n ∷ c ∷ q ∷ g ∷ i ∷ r ∷ tabulate (process-word t p) 12 8)
+    Good = T (valid-progress w p read) × (progress-words read ≡ n ∷ c ∷ q ∷ g ∷ i ∷ r ∷ tabulate (word-of-process t p) 12 8)
 
     -- a progress that is read out has the shape of its number
-    shape : n ≤ 23 → Shape w p c q gs i (ready-from r) n read
-    shape = shape-of w p c q gs i (ready-from r) n .0
+    shape : n ≤ 23 → Shape w p c q gs i (ready-numbered r) n read
+    shape = shape-of w p c q gs i (ready-numbered r) n .0
 
     -- what the tests say
     tests-mean : T tests → Good
@@ -277,9 +277,9 @@ module _ (t : List ℕ) (p : ℕ) where
         let partner = partner-exact .0 (u .2) in
         let index = index-exact size .0 (u .4) in
         let ready = ready-exact size .0 (u .5) in
-        let valid : T (shape-valid w p c q gs i (ready-from r) n) =
+        let valid : T (shape-valid w p c q gs i (ready-numbered r) n) =
         all-five channel-valid partner-valid guards-valid index-valid ready-valid (channel .0) (partner .0) (guards .0) (index .0) (ready .0) in
-        let words : shape-words w p c q gs i (ready-from r) n ≡ n ∷ c ∷ q ∷ g ∷ i ∷ r ∷ tabulate (process-word t p) 12 8 =
+        let words : shape-words w p c q gs i (ready-numbered r) n ≡ n ∷ c ∷ q ∷ g ∷ i ∷ r ∷ tabulate (word-of-process t p) 12 8 =
         cc (channel .1, partner .1, guards .1, guards .2, index .1, ready .1) in
         (rw (s .valid) valid, s .words ∙ words)
 
@@ -292,7 +292,7 @@ module _ (t : List ℕ) (p : ℕ) where
         cases true e = leb-true n 23 e
         cases false e =
             let beyond : 24 ≤ n = leb-false n 23 e in
-            let words = sym (h .1) ∙ ap progress-words (shape-of w p c q gs i (ready-from r) n .1 beyond) in
+            let words = sym (h .1) ∙ ap progress-words (shape-of w p c q gs i (ready-numbered r) n .1 beyond) in
             let none : n ≡ 0 = cc in absurd (omega arith)
 
     -- and what says as much
@@ -314,17 +314,17 @@ module _ (t : List ℕ) (p : ℕ) where
 
   -- The words of a progress fit exactly where they are those of a valid progress.
   pub progress-exact : T (progress-fits t (K-of t) (N-of t) (M-of t) p)
-      ↔ (T (valid-progress w p progress-read) × (progress-words progress-read ≡ tabulate (process-word t p) 6 14))
+      ↔ (T (valid-progress w p progress-read) × (progress-words progress-read ≡ tabulate (word-of-process t p) 6 14))
   unfolding view-process
   progress-exact =
-      let f = process-word t p in
+      let f = word-of-process t p in
       (tests-mean (f 6) (f 7) (f 8) (f 9) (f 10) (f 11), means-tests (f 6) (f 7) (f 8) (f 9) (f 10) (f 11))
 
   -- A progress whose words fit goes with the places that its number goes with.
   pub places-are : T (progress-fits t (K-of t) (N-of t) (M-of t) p) → (y : Place)
-      → fits y progress-read ≡ place-fits (place-number y) (process-word t p 6)
+      → fits y progress-read ≡ place-fits (place-number y) (word-of-process t p 6)
   unfolding view-process
   places-are h y =
-      let f = process-word t p in
+      let f = word-of-process t p in
       let good = tests-mean (f 6) (f 7) (f 8) (f 9) (f 10) (f 11) h in
       shape (f 6) (f 7) (f 8) (f 9) (f 10) (f 11) (bound (f 6) (f 7) (f 8) (f 9) (f 10) (f 11) good) .places y

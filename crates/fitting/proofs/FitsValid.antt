@@ -11,7 +11,7 @@ use Rattle.rules.specs.Lists.{all, total, from, times, first, bit}
 use Rattle.rules.specs.State.{Core, Channel, queues-of, Wiring, wiring}
 use Rattle.rules.specs.Items.{core-of, no-core, no-channel}
 use Rattle.rules.specs.SetUp.{sizes}
-use Rattle.rules.specs.Packing.{heads, place-number, K-of, N-of, M-of, process-word, view-core, view-process, view}
+use Rattle.rules.specs.Packing.{heads, place-number, K-of, N-of, M-of, word-of-process, view-core, view-process, view}
 use Rattle.rules.specs.Soundness.{
   word32,
   is-process,
@@ -153,7 +153,7 @@ module _ (t : List ℕ) (words : (i : ℕ) → getD t i 0 < 4294967296) (h : Fit
   stands-linked p l b =
       let y = view-process t p .place in
       let state = h .processes p l b .state in
-      let place : process-word t p 0 ≡ place-number y = cc in
+      let place : word-of-process t p 0 ≡ place-number y = cc in
       meeting-exact t (K-of t) p (on-cores (view t) p) (in-queues (view t) p) (heads-in (view t) p) y (standing-once p)
       (heads-below t some (h .cores) p) .0 (rw (place, load-is) at (h .meetings p l b))
 

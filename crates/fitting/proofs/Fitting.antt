@@ -11,7 +11,7 @@ use lib.ListN.{length, getD, replicate, length-replicate, getD-replicate}
 use Rattle.rules.specs.Lists.{if_then_else_, within, all, total, from}
 use Rattle.rules.specs.State.{wiring}
 use Rattle.rules.specs.SetUp.{room, sizes}
-use Rattle.rules.specs.Packing.{K-of, N-of, M-of, process-word, view-channel, view}
+use Rattle.rules.specs.Packing.{K-of, N-of, M-of, word-of-process, view-channel, view}
 use Rattle.rules.specs.Soundness.{valid-channel}
 use Rattle.rules.proofs.Tests.{both, four, three, together, within-means, all-from}
 use Rattle.fitting.proofs.Tests.{equal-holds, all-four, zeros-mean, zeros-hold, from-holds}
@@ -80,7 +80,7 @@ pub record Fitting (t : List ℕ) : Type 0 where
   pub cores : (k : ℕ) → k < K-of t → CoreFits t k
   pub apart : Apart (N-of t) (λ q. 0) (λ q. total (standing q) (view t .cores))
   pub processes : (p : ℕ) → 1 ≤ p → p ≤ N-of t → FlatProcess t p
-  pub meetings : (p : ℕ) → 1 ≤ p → p ≤ N-of t → T (meeting-fits t (K-of t) p (process-word t p 0) (total (load p) (view t .cores)))
+  pub meetings : (p : ℕ) → 1 ≤ p → p ≤ N-of t → T (meeting-fits t (K-of t) p (word-of-process t p 0) (total (load p) (view t .cores)))
   pub channels : (c : ℕ) → 1 ≤ c → c ≤ M-of t → T (valid-channel (wiring (view t)) (view-channel t c))
 
 module _ (t : List ℕ) (words : (i : ℕ) → getD t i 0 < 4294967296) (header : HeaderFits t) where
@@ -119,7 +119,7 @@ module _ (t : List ℕ) (words : (i : ℕ) → getD t i 0 < 4294967296) (header 
   rest-means (well met) e h =
       let u = both (processes-fit t (K-of t) (N-of t) (M-of t) met 1 (N-of t)) (channels-fit t (K-of t) (N-of t) 1 (M-of t)) h in
       let each = all-from (process-fits t (K-of t) (N-of t) (M-of t) met) 1 (N-of t) (rw processes-fit-is at (u .0)) in
-      let part : (p : ℕ) (l : 1 ≤ p) (b : p ≤ N-of t) → FlatProcess t p × T (meeting-fits t (K-of t) p (process-word t p 0) (getD met p 0)) =
+      let part : (p : ℕ) (l : 1 ≤ p) (b : p ≤ N-of t) → FlatProcess t p × T (meeting-fits t (K-of t) p (word-of-process t p 0) (getD met p 0)) =
       λ p l b. process-exact t met p .0 (each p l (omega arith)) in
       let channel = all-from (channel-fits t (K-of t) (N-of t)) 1 (M-of t) (rw channels-fit-is at (u .1)) in
       record {

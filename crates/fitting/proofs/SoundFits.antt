@@ -27,8 +27,8 @@ use Rattle.rules.specs.Packing.{
   M-of,
   core-at,
   process-at,
-  core-word,
-  process-word,
+  word-of-core,
+  word-of-process,
   view-core,
   view-process,
   view-channel,
@@ -137,8 +137,8 @@ module _ (t : List ℕ) (good : T (valid (view t))) (packed : pack (view t) ≡ 
   some = header-processes t header-fits .0
 
   -- the link words of a process
-  links : (p : ℕ) → 1 ≤ p → p ≤ length (s .processes) → (f : ℕ) → f < 4 → process-word t p (20 + f) ≡ getD (link-words s p) f 0
-  links p l b f c = subst (λ (u : List ℕ). process-word u p (20 + f) ≡ getD (link-words s p) f 0) packed (link-word s p l b f c)
+  links : (p : ℕ) → 1 ≤ p → p ≤ length (s .processes) → (f : ℕ) → f < 4 → word-of-process t p (20 + f) ≡ getD (link-words s p) f 0
+  links p l b f c = subst (λ (u : List ℕ). word-of-process u p (20 + f) ≡ getD (link-words s p) f 0) packed (link-word s p l b f c)
 
   module _ (k : ℕ) (b : k < K-of t) where
     -- the core is one of the state
@@ -150,15 +150,15 @@ module _ (t : List ℕ) (good : T (valid (view t))) (packed : pack (view t) ≡ 
     core = core-of-view t k b
 
     -- the words of its work
-    work-words-are : (f : ℕ) → f < 3 → core-word t k f ≡ getD (work-words (view-core t k .work)) f 0
+    work-words-are : (f : ℕ) → f < 3 → word-of-core t k f ≡ getD (work-words (view-core t k .work)) f 0
     work-words-are f d =
-        subst (λ (u : List ℕ). core-word u k f ≡ getD (work-words (view-core t k .work)) f 0) packed
+        subst (λ (u : List ℕ). word-of-core u k f ≡ getD (work-words (view-core t k .work)) f 0) packed
         (work-word s v k inside f d ∙ ap (λ (x : Core). getD (work-words (x .work)) f 0) core)
 
     -- the words behind its work
-    queue-words-are : (f : ℕ) → f < 13 → core-word t k (3 + f) ≡ getD (queue-words (view-core t k)) f 0
+    queue-words-are : (f : ℕ) → f < 13 → word-of-core t k (3 + f) ≡ getD (queue-words (view-core t k)) f 0
     queue-words-are f d =
-        subst (λ (u : List ℕ). core-word u k (3 + f) ≡ getD (queue-words (view-core t k)) f 0) packed
+        subst (λ (u : List ℕ). word-of-core u k (3 + f) ≡ getD (queue-words (view-core t k)) f 0) packed
         (queue-word s v k inside f d ∙ ap (λ (x : Core). getD (queue-words x) f 0) core)
 
     -- its words that belong to no queue
@@ -168,8 +168,8 @@ module _ (t : List ℕ) (good : T (valid (view t))) (packed : pack (view t) ≡ 
         record {
           work = (
             subst (λ (x : Core). T (valid-work w (x .work))) core (v .cores k inside .work),
-            words-block (core-word t k) 0 3 (work-words (view-core t k .work)) (length-work-words (view-core t k .work))
-                (λ i d. ap (core-word t k) (zero-add i) ∙ work-words-are i d),
+            words-block (word-of-core t k) 0 3 (work-words (view-core t k .work)) (length-work-words (view-core t k .work))
+                (λ i d. ap (word-of-core t k) (zero-add i) ∙ work-words-are i d),
           );
           dispatch = subst (λ (x : Core). x .dispatch ≤ 32) core (v .cores k inside .dispatch);
           mark = sym (queue-words-are 4 (lit< tt));
@@ -201,14 +201,14 @@ module _ (t : List ℕ) (good : T (valid (view t))) (packed : pack (view t) ≡ 
     heads-eq = ap (λ (x : Core). heads (x .run-queue)) core ∙ heads-are t some k
 
     -- they are linked, too
-    heads-linked : Linked (batch-behind t) (core-word t k 8) (heads-of t k)
+    heads-linked : Linked (batch-behind t) (word-of-core t k 8) (heads-of t k)
     heads-linked =
         let a = heads-among s v k inside in
         let l = heads (core-of s k .run-queue) in
         let from-first : Linked (batch-behind t) (first l) l =
         linked-back (length (s .processes)) (batch-behind t) l a
         (λ p m. let r = a .range p m in links p (r .0) (r .1) 3 (lit< tt) ∙ batch-follows s v k inside p m) in
-        let at-first : first (heads-of t k) ≡ core-word t k 8 = chain-first (batch-behind t) (N-of t) (core-word t k 8) some in
+        let at-first : first (heads-of t k) ≡ word-of-core t k 8 = chain-first (batch-behind t) (N-of t) (word-of-core t k 8) some in
         subst (λ (n : ℕ). Linked (batch-behind t) n (heads-of t k)) at-first
         (subst (λ (m : List ℕ). Linked (batch-behind t) (first m) m) heads-eq from-first)
 
@@ -241,7 +241,7 @@ module _ (t : List ℕ) (good : T (valid (view t))) (packed : pack (view t) ≡ 
         record {
           flat = rw processes-of-view at (means-core-fits w t k flat);
           active = record {
-            linked = read-linked (core-word t k 3) (core-of s k .active) (ap (λ (x : Core). x .active) core) (queue-linked 0 (omega arith));
+            linked = read-linked (word-of-core t k 3) (core-of s k .active) (ap (λ (x : Core). x .active) core) (queue-linked 0 (omega arith));
             last-is = queue-words-are 1 (lit< tt) ∙ sym (last-from-zero (view-core t k .active));
             size-is = ap (word t) (omega arith) ∙ queue-words-are 2 (lit< tt) ∙ sym (zero-add (length (view-core t k .active)));
           };
@@ -288,11 +288,11 @@ module _ (t : List ℕ) (good : T (valid (view t))) (packed : pack (view t) ≡ 
 
     -- words of its own that are packed from the a-th word on
     read-is : (f : Process → List ℕ) (a n : ℕ) → length (f (process-of s p)) ≡ n
-        → ((i : ℕ) → i < n → process-word (pack s) p (a + i) ≡ getD (f (process-of s p)) i 0)
-        → f (view-process t p) ≡ tabulate (process-word t p) a n
+        → ((i : ℕ) → i < n → word-of-process (pack s) p (a + i) ≡ getD (f (process-of s p)) i 0)
+        → f (view-process t p) ≡ tabulate (word-of-process t p) a n
     read-is f a n size e =
-        ap f (sym process) ∙ words-block (process-word (pack s) p) a n (f (process-of s p)) size e
-        ∙ ap (λ (u : List ℕ). tabulate (process-word u p) a n) packed
+        ap f (sym process) ∙ words-block (word-of-process (pack s) p) a n (f (process-of s p)) size e
+        ∙ ap (λ (u : List ℕ). tabulate (word-of-process u p) a n) packed
 
     -- its own words are those of a valid process
     process-here : FlatProcess t p
@@ -303,7 +303,7 @@ module _ (t : List ℕ) (good : T (valid (view t))) (packed : pack (view t) ≡ 
           count = subst (λ (x : Process). x .alternation .count ≤ 9) process (valid-here .count);
           progress = subst (λ (x : Process). T (valid-progress w p (x .progress))) process (valid-here .in-hand);
           places = subst (λ (x : Process). T (fits (x .place) (x .progress))) process (valid-here .fitting);
-          state = read-is state-words 0 6 refl (λ i c. ap (process-word (pack s) p) (zero-add i) ∙ state-word s p l exists i c);
+          state = read-is state-words 0 6 refl (λ i c. ap (word-of-process (pack s) p) (zero-add i) ∙ state-word s p l exists i c);
           words = read-is (λ x. progress-words (x .progress)) 6 14 (length-progress-words x) (progress-word s p l exists);
         }
 
@@ -320,12 +320,12 @@ module _ (t : List ℕ) (good : T (valid (view t))) (packed : pack (view t) ≡ 
             ∙ ap (λ (m : List ℕ). getD m f 0) none ∙ getD-replicate 3 f 0 0 c
 
     -- what was met of it fits
-    meeting-here : T (meeting-fits t (K-of t) p (process-word t p 0) (total (load p) (s .cores)))
+    meeting-here : T (meeting-fits t (K-of t) p (word-of-process t p 0) (total (load p) (s .cores)))
     unfolding view-process
     meeting-here =
         let y = view-process t p .place in
         let state = process-here .state in
-        let place : process-word t p 0 ≡ place-number y = cc in
+        let place : word-of-process t p 0 ≡ place-number y = cc in
         let stands-here : T (stands (on-cores s p) (in-queues s p) y) =
         subst (λ (x : Process). T (stands (on-cores s p) (in-queues s p) (x .place))) process (v .processes p l exists .standing) in
         rw (place, load-is)

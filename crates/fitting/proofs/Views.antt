@@ -10,7 +10,7 @@ use lib.ListN.{length, take, length-map, List·getD-map}
 use Rattle.rules.specs.Lists.{within, nth, tabulate}
 use Rattle.rules.specs.State.{Way, sending, receiving, Channel, State, wiring, at-end, end-of}
 use Rattle.rules.specs.Items.{no-core, no-process, no-channel, core-of, process-of, channel-of}
-use Rattle.rules.specs.Packing.{K-of, N-of, M-of, channel-word, view-core, view-process, view-channel, view}
+use Rattle.rules.specs.Packing.{K-of, N-of, M-of, word-of-channel, view-core, view-process, view-channel, view}
 use Rattle.rules.specs.Soundness.{own-end}
 use Rattle.rules.proofs.Tabulate.{length-tabulate, tabulate-at}
 use Rattle.rules.proofs.Tests.{within-means}
@@ -80,11 +80,11 @@ module _ (t : List ℕ) where
   end-place receiving = 1
 
   -- the process at an end of a channel
-  end-at : (way : Way) (c : ℕ) → 1 ≤ c → c ≤ M-of t → end-of (wiring (view t)) way c ≡ channel-word t c (end-place way)
+  end-at : (way : Way) (c : ℕ) → 1 ≤ c → c ≤ M-of t → end-of (wiring (view t)) way c ≡ word-of-channel t c (end-place way)
   unfolding view-channel
   end-at way c l b = end-of-channel (view t) way c ∙ ap (λ (x : Channel). at-end way (x .ends)) (channel-of-view c l b) ∙ cases way
     where
-      cases : (way : Way) → at-end way (view-channel t c .ends) ≡ channel-word t c (end-place way)
+      cases : (way : Way) → at-end way (view-channel t c .ends) ≡ word-of-channel t c (end-place way)
       cases sending = refl
       cases receiving = refl
 

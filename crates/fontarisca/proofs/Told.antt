@@ -21,7 +21,7 @@ use Rattle.parts.proofs.Card.{K-is, length-is}
 use Rattle.fontarisca.specs.First.{first-refusal}
 
 -- an accepted call's words are written
-accepted-words : (a : Answer) (old : List ℕ) → words-after (four (yes-with a)) old ≡ words-of (yes-with a)
+accepted-words : (a : Answer) (old : List ℕ) → words-after (four (yes-with a)) old ≡ words-of a
 accepted-words BUILT old = refl
 accepted-words (TAKEN p c) old = refl
 accepted-words MOVED old = refl

@@ -10,7 +10,7 @@ use Rattle.rules.specs.Lists.{within, all, distinct}
 use Rattle.rules.specs.State.{receiving, Stage, doing, nobody, wiring}
 use Rattle.rules.specs.Items.{channel-of}
 use Rattle.rules.specs.Choice.{guard}
-use Rattle.rules.specs.Packing.{of-choice, progress-words, view, word-number, word-from}
+use Rattle.rules.specs.Packing.{of-choice, progress-words, view, word-number, word-numbered}
 use Rattle.rules.specs.Soundness.{own-end, own-guards, in-list, ready-in-list, valid-enabling, valid-disabling, valid-word}
 use Rattle.rules.proofs.Tests.{both, three, within-means}
 use Rattle.parts.specs.Does.{Card, At}
@@ -91,7 +91,7 @@ module _ {t : List ℕ} {cores processes k p n : ℕ} {gs : List ℕ} {i : ℕ} 
   word-is = rw guard-is (channel-read (h .chooses .packs) (guard gs i) guard-among 2 (lit< tt))
 
   -- what is made of it there is the word
-  pub found-word : word-from (getD t (guard-word-at t cores processes p) 0) ≡ channel-of (view t) (guard gs i) .word
+  pub found-word : word-numbered (getD t (guard-word-at t cores processes p) 0) ≡ channel-of (view t) (guard gs i) .word
   found-word = rw guard-is (who-stands (h .card) (guard gs i) guard-among)
 
   -- a word of 0 is nobody's

@@ -5,7 +5,7 @@ use mathlib.Core.Option.{Option}
 use lib.Dec.{eqb, ltb}
 use lib.ListN.{length, getD, set, take}
 use Rattle.rules.specs.Lists.{if_then_else_, tabulate}
-use Rattle.rules.specs.Packing.{process-at, channel-at, ready-from}
+use Rattle.rules.specs.Packing.{process-at, channel-at, ready-numbered}
 use Rattle.table.specs.Has.{HasProcess, HasChannel}
 
 -- the word f of process p, among as many cores
@@ -19,7 +19,7 @@ abbrev pub index-at : List ℕ → ℕ → ℕ → ℕ
 index-at t cores p = word-of t cores p 10
 
 abbrev pub ready-at : List ℕ → ℕ → ℕ → Option ℕ
-ready-at t cores p = ready-from (word-of t cores p 11)
+ready-at t cores p = ready-numbered (word-of t cores p 11)
 
 -- the channel of the guard that the choice has come to
 abbrev pub guard-at : List ℕ → ℕ → ℕ → ℕ

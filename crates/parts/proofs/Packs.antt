@@ -8,7 +8,7 @@ use lib.Dec.{T, lit<}
 use lib.ListN.{length, getD, set, length-set, replicate}
 use Rattle.rules.specs.State.{Place, asleep, Alternation, Progress, nothing, Process, Task, free, ChannelWord, State, wiring}
 use Rattle.rules.specs.Items.{Kind, core, place, data-word, alternation, progress, channel-word, transfers, Val, core-of, process-of, channel-of, put}
-use Rattle.rules.specs.Packing.{pack, view, core-at, process-at, channel-at, place-number, word-number, word-from, work-words, progress-words}
+use Rattle.rules.specs.Packing.{pack, view, core-at, process-at, channel-at, place-number, word-number, word-numbered, work-words, progress-words}
 use Rattle.rules.specs.Steps.{with-work}
 use Rattle.rules.proofs.Laws.Frame.{put-other}
 use Rattle.packing.proofs.Focus.{writes, below}
@@ -159,7 +159,7 @@ asleep-written packs k inside p is x task q e = task-written (place-written pack
 
 -- who is found in a channel's word of a sound table stands there
 pub who-stands : {t : List ℕ} {cores processes k : ℕ} → Card t cores processes k → (c : ℕ) → IsChannel (view t) c
-    → word-from (getD t (channel-at cores processes c 2) 0) ≡ channel-of (view t) c .word
+    → word-numbered (getD t (channel-at cores processes c 2) 0) ≡ channel-of (view t) c .word
 who-stands {t} card c is =
-    ap word-from (channel-read (card-packs card) c is 2 (lit< tt))
+    ap word-numbered (channel-read (card-packs card) c is 2 (lit< tt))
     ∙ word-back (wiring (view t)) (channel-of (view t) c .word) (facts t (card .is-sound) .channels c (is .0) (is .1) .word)

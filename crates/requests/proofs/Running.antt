@@ -12,8 +12,8 @@ use Rattle.rules.specs.Numbers.{Answer, BUSY}
 use Rattle.rules.specs.State.{Progress, nothing, doing, due, Task, no-task, trigger, wake-up, Work, runs, free, State, Wiring}
 use Rattle.rules.specs.Items.{core-of, process-of}
 use Rattle.rules.specs.Rule.{Ran, run, refused, _>>=_}
-use Rattle.rules.specs.Requests.{Request, request, requester, in-hand, asks}
-use Rattle.rules.specs.Packing.{view, work-from, progress-from, progress-words, word-at, core-word, process-word, process-at}
+use Rattle.rules.specs.Requests.{Request, request, requester, nothing-in-hand, asks}
+use Rattle.rules.specs.Packing.{view, work-numbered, progress-numbered, progress-words, word-at, word-of-core, word-of-process, process-at}
 use Rattle.rules.proofs.Tests.{within-means}
 use Rattle.parts.specs.Does.{Card}
 use Rattle.parts.proofs.Card.{card-core, card-process, work-valid, N-is}
@@ -33,7 +33,7 @@ module _ (s : State) (w : Wiring) (x : Request) (k : ℕ) where
   from-work y = run (requester y >>= (λ p. asks w k p x)) s
 
   abbrev from-progress : ℕ → Progress → Ran Answer
-  from-progress p y = run (in-hand p y >>= (λ p. asks w k p x)) s
+  from-progress p y = run (nothing-in-hand p y >>= (λ p. asks w k p x)) s
 
   -- a process with nothing in hand is asked for its request
   pub run-asks : (p : ℕ) → Idle s k p → run (request w x k) s ≡ run (asks w k p x) s
@@ -54,14 +54,14 @@ module _ (s : State) (w : Wiring) (x : Request) (k : ℕ) where
 
 -- the process that core k runs, 0 for none, and its task, as the table has them
 abbrev runner : List ℕ → ℕ → ℕ
-runner t k = core-word t k 0
+runner t k = word-of-core t k 0
 
 abbrev task-of : List ℕ → ℕ → Task
-task-of t k = getD (no-task ∷ trigger (core-word t k 2) ∷ wake-up (core-word t k 2) ∷ []) (core-word t k 1) no-task
+task-of t k = getD (no-task ∷ trigger (word-of-core t k 2) ∷ wake-up (word-of-core t k 2) ∷ []) (word-of-core t k 1) no-task
 
 module _ (t : List ℕ) (cores processes k : ℕ) (card : Card t cores processes k) where
   -- what the core does
-  work-viewed : core-of (view t) k .work ≡ work-from (core-word t k 0) (core-word t k 1) (core-word t k 2)
+  work-viewed : core-of (view t) k .work ≡ work-numbered (word-of-core t k 0) (word-of-core t k 1) (word-of-core t k 2)
   work-viewed = work-seen t k (subst (λ (n : ℕ). k < n) (card .all-cores) (card .inside))
 
   work-free : runner t k ≡ 0 → core-of (view t) k .work ≡ free (task-of t k)
@@ -76,11 +76,11 @@ module _ (t : List ℕ) (cores processes k : ℕ) (card : Card t cores processes
 
   -- whether a process has anything in hand
   progress-none : (p : ℕ) → IsProcess (view t) p → word-at t (process-at cores p 6) ≡ 0 → process-of (view t) p .progress ≡ nothing
-  unfolding progress-from
+  unfolding progress-numbered
   progress-none p is e =
       let n = N-is t (card .is-sound) in
       let high = is .1 in
-      let same : process-word t p 6 ≡ 0 = ap (λ (m : ℕ). word-at t (process-at m p 6)) (sym (card .all-cores)) ∙ e in
+      let same : word-of-process t p 6 ≡ 0 = ap (λ (m : ℕ). word-at t (process-at m p 6)) (sym (card .all-cores)) ∙ e in
       progress-seen t p (is .0) (omega arith) ∙ rw same
 
   progress-some : (p : ℕ) → IsProcess (view t) p → (word-at t (process-at cores p 6) ≡ 0 → ⊥) → process-of (view t) p .progress ≡ nothing → ⊥

@@ -11,7 +11,7 @@ use Rattle.rules.specs.Packing.{
   channel-words,
   header-words,
   pack,
-  progress-from,
+  progress-numbered,
   view-core,
   view-process,
   view-channel,
@@ -23,7 +23,7 @@ use Rattle.rules.specs.BenchSheet.{BenchSheet}
 use Rattle.rules.specs.Shortcuts.{BothGuards}
 
 pub bench-sheet : BenchSheet
-unfolding flatMap core-words progress-words next-link head-link batch-link process-words channel-words header-words pack progress-from view-core view-process view-channel view on-cores in-queues valid-process valid-core valid-channel valid sound call set-up-call
+unfolding flatMap core-words progress-words next-link head-link batch-link process-words channel-words header-words pack progress-numbered view-core view-process view-channel view on-cores in-queues valid-process valid-core valid-channel valid sound call set-up-call
 bench-sheet =
     record {
       case-1 = (refl, refl, refl);
@@ -41,5 +41,5 @@ bench-sheet =
 
 -- both guards of a choice are enabled and disabled, though the first is ready
 pub both-guards : BothGuards
-unfolding flatMap core-words progress-words next-link head-link batch-link process-words channel-words header-words pack progress-from view-core view-process view-channel view on-cores in-queues valid-process valid-core valid-channel valid sound call set-up-call
+unfolding flatMap core-words progress-words next-link head-link batch-link process-words channel-words header-words pack progress-numbered view-core view-process view-channel view on-cores in-queues valid-process valid-core valid-channel valid sound call set-up-call
 both-guards = refl

@@ -9,7 +9,7 @@ use Rattle.rules.specs.Numbers.{Answer, BUILT, TAKEN, MOVED, SLEPT, GO, 
 use Rattle.rules.specs.State.{queued, ended, go, nothing, due, Alternation, Process, no-task, trigger, wake-up, free, State}
 use Rattle.rules.specs.Items.{core-of, process-of, no-alternation, put, alternation, transfers}
 use Rattle.rules.specs.Requests.{send, receive, choose}
-use Rattle.rules.specs.Packing.{pack, view, channel-word}
+use Rattle.rules.specs.Packing.{pack, view, word-of-channel}
 use Rattle.rules.specs.Calls.{Result, Ask, the-step, a-request, call, Built, set-up-call}
 
 -- Scripts: calls one after the other, each on the table that the one before left, with an answer slice of 3 words.
@@ -45,7 +45,7 @@ after t (x ∷ xs) = after (turn t x .table) xs
 
 -- each answer as its number and its words
 abbrev pub said : List Answer → List (List ℕ)
-said l = map (λ (a : Answer). number-of (yes-with a) ∷ words-of (yes-with a)) l
+said l = map (λ (a : Answer). number-of (yes-with a) ∷ words-of a) l
 
 -- 1. "K=1, N=1, M=0: 48 words BUILT; 47 and 49 ROOM."
 abbrev pub set-up-of : ℕ → Built
@@ -117,7 +117,7 @@ abbrev pub Case-6 : Type 0
 Case-6 =
     (answers (pair 2) (both-look ++ both-park ++ one-sends)
     ≡ said (MOVED ∷ GO 1 ∷ MOVED ∷ GO 2 ∷ TAKEN 1 1 ∷ TAKEN 2 1 ∷ MOVED ∷ MOVED ∷ SLEPT 2 ∷ MOVED ∷ MOVED ∷ MOVED ∷ SENT 1 1 ∷ []))
-    × (channel-word (after (pair 2) (both-look ++ both-park)) 1 2 ≡ 2)
+    × (word-of-channel (after (pair 2) (both-look ++ both-park)) 1 2 ≡ 2)
     × (core-of (view (after (pair 2) (both-look ++ both-park ++ one-sends))) 0 .active ≡ 2 ∷ [])
 
 -- 7. "Choose over one guard whose word is 2: look, ready, wait, disable MOVED, finish CHOSE."
@@ -129,7 +129,7 @@ two-chooses = steps 1 ∷ steps 1 ∷ chooses 1 (1 ∷ []) ∷ []
 
 abbrev pub Case-7 : Type 0
 Case-7 =
-    (channel-word (after (pair 2) one-parks) 1 2 ≡ 2)
+    (word-of-channel (after (pair 2) one-parks) 1 2 ≡ 2)
     × (answers (after (pair 2) one-parks) (two-chooses ++ (steps 1 ∷ steps 1 ∷ steps 1 ∷ steps 1 ∷ steps 1 ∷ []))
     ≡ said (MOVED ∷ GO 2 ∷ TAKEN 2 0 ∷ MOVED ∷ MOVED ∷ MOVED ∷ MOVED ∷ CHOSE 2 1 ∷ []))
 
@@ -143,7 +143,7 @@ no-flags n = record { enabling = false; not-ready = false; waiting = false; coun
 abbrev pub Case-8 : Type 0
 Case-8 =
     (answers (pair 2) two-waits ≡ said (MOVED ∷ GO 2 ∷ TAKEN 2 0 ∷ MOVED ∷ MOVED ∷ MOVED ∷ SLEPT 2 ∷ []))
-    × (channel-word (after (pair 2) two-waits) 1 2 ≡ 5)
+    × (word-of-channel (after (pair 2) two-waits) 1 2 ≡ 5)
     × (process-of (view (after (pair 2) two-waits)) 2 .alternation ≡ record { enabling = false; not-ready = false; waiting = true; count = 2 })
 
 -- Process 1 now sends to process 2, which waits: it looks at 5, parks, and its core has the task "trigger 2".
@@ -181,8 +181,8 @@ many-transfers = pack (put transfers 1 4294967295 (view (after (pair 2) (one-par
 
 abbrev pub Case-13 : Type 0
 Case-13 =
-    (channel-word many-transfers 1 3 ≡ 4294967295) × (answers many-transfers (steps 1 ∷ []) ≡ said (MOVED ∷ []))
-    × (channel-word (after many-transfers (steps 1 ∷ [])) 1 3 ≡ 0)
+    (word-of-channel many-transfers 1 3 ≡ 4294967295) × (answers many-transfers (steps 1 ∷ []) ≡ said (MOVED ∷ []))
+    × (word-of-channel (after many-transfers (steps 1 ∷ [])) 1 3 ≡ 0)
 
 -- The starred cases, together.
 pub record BenchSheet : Type 0 where

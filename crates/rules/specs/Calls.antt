@@ -26,7 +26,7 @@ abbrev pub refusal : List ℕ → List ℕ → Refusal → Result
 refusal t answer r = record { number = number-of (no-because r); answer = answer; table = t }
 
 abbrev pub acceptance : Answer → State → Result
-acceptance a s = record { number = number-of (yes-with a); answer = words-of (yes-with a); table = pack s }
+acceptance a s = record { number = number-of (yes-with a); answer = words-of a; table = pack s }
 
 -- "There are three kinds of call: set-up; a request ..; a step"
 pub data Ask : Type 0 where

@@ -78,17 +78,17 @@ raise-step p gs i = do
   next p (place-name gs i)
 
 -- "place (if the word is still 0 it becomes one's name with the low bit set, go on to the next guard; otherwise next ready)"
-abbrev pub placed : ℕ → List ℕ → ℕ → ChannelWord → Rule Answer
-placed p gs i nobody = do
+abbrev pub name-placed : ℕ → List ℕ → ℕ → ChannelWord → Rule Answer
+name-placed p gs i nobody = do
   becomes channel-word (guard gs i) (choosing p)
   next p (enable-next gs i)
-placed p gs i (plain q) = next p (ready-from-place gs i)
-placed p gs i (choosing q) = next p (ready-from-place gs i)
+name-placed p gs i (plain q) = next p (ready-from-place gs i)
+name-placed p gs i (choosing q) = next p (ready-from-place gs i)
 
-abbrev pub place-step : ℕ → List ℕ → ℕ → Rule Answer
-place-step p gs i = do
+abbrev pub place-name-step : ℕ → List ℕ → ℕ → Rule Answer
+place-name-step p gs i = do
   word ← the channel-word (guard gs i)
-  placed p gs i word
+  name-placed p gs i word
 
 -- "ready (clear not-ready, and count - 1 if it came from place; go on)"
 abbrev pub ready-from-look-step : ℕ → List ℕ → ℕ → Rule Answer

@@ -1,4 +1,5 @@
--- Document 01, "Numbers returned": each answer and each refusal is a constructor, and `reply` gives its number and words.
+-- Document 01, "Numbers returned": each answer and each refusal is a constructor; `reply` gives the number and the words of an answer,
+-- `refusal-number` the number of a refusal.
 use Prim.Native.Nat.{ℕ}
 use mathlib.Core.List.{List, [], _∷_}
 
@@ -34,36 +35,41 @@ pub record Reply : Type 0 where
 abbrev says : ℕ → ℕ → ℕ → ℕ → Reply
 says n p c v = record { number = n; process = p; channel = c; value = v }
 
--- The table of 01, row by row.
-abbrev pub reply : Said → Reply
-reply (yes-with BUILT) = says 0 0 0 0
-reply (yes-with (TAKEN p c)) = says 1 p c 0
-reply (yes-with MOVED) = says 2 0 0 0
-reply (yes-with (SLEPT p)) = says 3 p 0 0
-reply (yes-with IDLE) = says 4 0 0 0
-reply (yes-with (GO p)) = says 5 p 0 0
-reply (yes-with (SENT p c)) = says 6 p c 0
-reply (yes-with (GOT p c v)) = says 7 p c v
-reply (yes-with (CHOSE p c)) = says 8 p c 0
-reply (no-because SIZE) = says 20 0 0 0
-reply (no-because PAIRS) = says 21 0 0 0
-reply (no-because ROOM) = says 22 0 0 0
-reply (no-because NAME) = says 23 0 0 0
-reply (no-because SELF) = says 24 0 0 0
-reply (no-because ANSWER) = says 25 0 0 0
-reply (no-because DAMAGED) = says 26 0 0 0
-reply (no-because CORE) = says 27 0 0 0
-reply (no-because BUSY) = says 28 0 0 0
-reply (no-because AWAITED) = says 29 0 0 0
-reply (no-because GUARDS) = says 30 0 0 0
-reply (no-because CHANNEL) = says 31 0 0 0
-reply (no-because OTHER-END) = says 32 0 0 0
-reply (no-because TWICE) = says 33 0 0 0
-reply (no-because FAULT) = says 34 0 0 0
+-- The table of 01, row by row: what is answered.
+abbrev pub reply : Answer → Reply
+reply BUILT = says 0 0 0 0
+reply (TAKEN p c) = says 1 p c 0
+reply MOVED = says 2 0 0 0
+reply (SLEPT p) = says 3 p 0 0
+reply IDLE = says 4 0 0 0
+reply (GO p) = says 5 p 0 0
+reply (SENT p c) = says 6 p c 0
+reply (GOT p c v) = says 7 p c v
+reply (CHOSE p c) = says 8 p c 0
 
+-- Why a call is refused. "A refusal writes nothing anywhere": it has a number and no words.
+abbrev pub refusal-number : Refusal → ℕ
+refusal-number SIZE = 20
+refusal-number PAIRS = 21
+refusal-number ROOM = 22
+refusal-number NAME = 23
+refusal-number SELF = 24
+refusal-number ANSWER = 25
+refusal-number DAMAGED = 26
+refusal-number CORE = 27
+refusal-number BUSY = 28
+refusal-number AWAITED = 29
+refusal-number GUARDS = 30
+refusal-number CHANNEL = 31
+refusal-number OTHER-END = 32
+refusal-number TWICE = 33
+refusal-number FAULT = 34
+
+-- the number returned
 abbrev pub number-of : Said → ℕ
-number-of a = reply a .number
+number-of (yes-with a) = reply a .number
+number-of (no-because why) = refusal-number why
 
 -- "The answer slice has exactly 3 words: process, channel, value"
-abbrev pub words-of : Said → List ℕ
+abbrev pub words-of : Answer → List ℕ
 words-of a = reply a .process ∷ reply a .channel ∷ reply a .value ∷ []

@@ -153,31 +153,31 @@ process-at k p f = 8 + 16 * k + 24 * (p - 1) + f
 abbrev pub channel-at : ℕ → ℕ → ℕ → ℕ → ℕ
 channel-at k n c f = 8 + 16 * k + 24 * n + 4 * (c - 1) + f
 
-abbrev pub core-word : List ℕ → ℕ → ℕ → ℕ
-core-word t j f = word-at t (core-at j f)
+abbrev pub word-of-core : List ℕ → ℕ → ℕ → ℕ
+word-of-core t j f = word-at t (core-at j f)
 
-abbrev pub process-word : List ℕ → ℕ → ℕ → ℕ
-process-word t p f = word-at t (process-at (K-of t) p f)
+abbrev pub word-of-process : List ℕ → ℕ → ℕ → ℕ
+word-of-process t p f = word-at t (process-at (K-of t) p f)
 
-abbrev pub channel-word : List ℕ → ℕ → ℕ → ℕ
-channel-word t c f = word-at t (channel-at (K-of t) (N-of t) c f)
+abbrev pub word-of-channel : List ℕ → ℕ → ℕ → ℕ
+word-of-channel t c f = word-at t (channel-at (K-of t) (N-of t) c f)
 
 -- Where a number isn't one of the packing's, anything may be read: packing it again gives another table.
-abbrev pub place-from : ℕ → Place
-place-from n = nth (running ∷ queued ∷ asleep ∷ ended ∷ []) n ended
+abbrev pub place-numbered : ℕ → Place
+place-numbered n = nth (running ∷ queued ∷ asleep ∷ ended ∷ []) n ended
 
-abbrev pub word-from : ℕ → ChannelWord
-word-from n = if eqb n 0 then nobody else if eqb (n % 2) 0 then plain (n / 2) else choosing (n / 2)
+abbrev pub word-numbered : ℕ → ChannelWord
+word-numbered n = if eqb n 0 then nobody else if eqb (n % 2) 0 then plain (n / 2) else choosing (n / 2)
 
-abbrev pub ready-from : ℕ → Option ℕ
-ready-from n = if eqb n 0 then none else some n
+abbrev pub ready-numbered : ℕ → Option ℕ
+ready-numbered n = if eqb n 0 then none else some n
 
-abbrev pub work-from : ℕ → ℕ → ℕ → Work
-work-from p task q = if eqb p 0 then free (getD (no-task ∷ trigger q ∷ wake-up q ∷ []) task no-task) else runs p
+abbrev pub work-numbered : ℕ → ℕ → ℕ → Work
+work-numbered p task q = if eqb p 0 then free (getD (no-task ∷ trigger q ∷ wake-up q ∷ []) task no-task) else runs p
 
 -- the progress of each number, from 0 on, with this channel, partner, guards, index and first ready guard
-unfoldable pub progress-from : ℕ → ℕ → ℕ → List ℕ → ℕ → Option ℕ → Progress
-progress-from number c q gs i r =
+unfoldable pub progress-numbered : ℕ → ℕ → ℕ → List ℕ → ℕ → Option ℕ → Progress
+progress-numbered number c q gs i r =
     getD
     (nothing
     ∷ doing (look sending c) ∷ doing (park sending c) ∷ doing (copy sending c q) ∷ doing (clear sending c q) ∷ doing (wake sending c q)
@@ -195,32 +195,124 @@ chain link zero p = []
 chain link (suc n) zero = []
 chain link (suc n) (suc p) = suc p ∷ chain link n (link (suc p))
 
+-- The words of a core, a process and a channel that a state is read out of, by name (docs/PACKING.md has them all).
+abbrev pub core-runs : ℕ
+core-runs = 0
+
+abbrev pub core-task : ℕ
+core-task = 1
+
+abbrev pub core-task-process : ℕ
+core-task-process = 2
+
+abbrev pub core-first : ℕ
+core-first = 3
+
+abbrev pub core-dispatch : ℕ
+core-dispatch = 6
+
+abbrev pub core-mark : ℕ
+core-mark = 7
+
+abbrev pub core-first-head : ℕ
+core-first-head = 8
+
+abbrev pub process-place : ℕ
+process-place = 0
+
+abbrev pub process-data : ℕ
+process-data = 1
+
+abbrev pub process-enabling : ℕ
+process-enabling = 2
+
+abbrev pub process-not-ready : ℕ
+process-not-ready = 3
+
+abbrev pub process-waiting : ℕ
+process-waiting = 4
+
+abbrev pub process-count : ℕ
+process-count = 5
+
+abbrev pub process-progress : ℕ
+process-progress = 6
+
+abbrev pub process-channel : ℕ
+process-channel = 7
+
+abbrev pub process-partner : ℕ
+process-partner = 8
+
+abbrev pub process-guards : ℕ
+process-guards = 9
+
+abbrev pub process-index : ℕ
+process-index = 10
+
+abbrev pub process-first-ready : ℕ
+process-first-ready = 11
+
+abbrev pub process-first-guard : ℕ
+process-first-guard = 12
+
+abbrev pub process-next : ℕ
+process-next = 20
+
+abbrev pub process-next-head : ℕ
+process-next-head = 23
+
+abbrev pub channel-writer : ℕ
+channel-writer = 0
+
+abbrev pub channel-reader : ℕ
+channel-reader = 1
+
+abbrev pub channel-holder : ℕ
+channel-holder = 2
+
+abbrev pub channel-transfers : ℕ
+channel-transfers = 3
+
 unfoldable pub view-core : List ℕ → ℕ → Core
 view-core t j =
-    let w = core-word t j in
-    let queue = chain (λ p. process-word t p 20) (N-of t) in
+    let w = word-of-core t j in
+    let queue = chain (λ p. word-of-process t p process-next) (N-of t) in
     record {
-      work = work-from (w 0) (w 1) (w 2);
-      active = queue (w 3);
-      dispatch = w 6;
-      mark = eqb (w 7) 1;
-      run-queue = map queue (chain (λ p. process-word t p 23) (N-of t) (w 8));
+      work = work-numbered (w core-runs) (w core-task) (w core-task-process);
+      active = queue (w core-first);
+      dispatch = w core-dispatch;
+      mark = eqb (w core-mark) 1;
+      run-queue = map queue (chain (λ p. word-of-process t p process-next-head) (N-of t) (w core-first-head));
     }
 
 unfoldable pub view-process : List ℕ → ℕ → Process
 view-process t p =
-    let w = process-word t p in
+    let w = word-of-process t p in
+    let guards = take (w process-guards) (tabulate w process-first-guard 8) in
     record {
-      place = place-from (w 0);
-      data-word = w 1;
-      alternation = record { enabling = eqb (w 2) 1; not-ready = eqb (w 3) 1; waiting = eqb (w 4) 1; count = w 5 };
-      progress = progress-from (w 6) (w 7) (w 8) (take (w 9) (tabulate w 12 8)) (w 10) (ready-from (w 11));
+      place = place-numbered (w process-place);
+      data-word = w process-data;
+      alternation =
+          record {
+            enabling = eqb (w process-enabling) 1;
+            not-ready = eqb (w process-not-ready) 1;
+            waiting = eqb (w process-waiting) 1;
+            count = w process-count;
+          };
+      progress =
+          progress-numbered (w process-progress) (w process-channel) (w process-partner) guards (w process-index)
+          (ready-numbered (w process-first-ready));
     }
 
 unfoldable pub view-channel : List ℕ → ℕ → Channel
 view-channel t c =
-    let w = channel-word t c in
-    record { ends = record { writer = w 0; reader = w 1 }; word = word-from (w 2); transfers = w 3 }
+    let w = word-of-channel t c in
+    record {
+      ends = record { writer = w channel-writer; reader = w channel-reader };
+      word = word-numbered (w channel-holder);
+      transfers = w channel-transfers;
+    }
 
 unfoldable pub view : List ℕ → State
 view t =

@@ -44,16 +44,16 @@ unless true r = go-on
 unless false r = refuse r
 
 -- "BUSY: a request, but nothing runs on this core, or the running process still has a request in hand"
-abbrev pub in-hand : ℕ → Progress → Rule ℕ
-in-hand p nothing = done p
-in-hand p (doing x) = refuse BUSY
-in-hand p (due o) = refuse BUSY
+abbrev pub nothing-in-hand : ℕ → Progress → Rule ℕ
+nothing-in-hand p nothing = done p
+nothing-in-hand p (doing x) = refuse BUSY
+nothing-in-hand p (due o) = refuse BUSY
 
 abbrev pub requester : Work → Rule ℕ
 requester (free t) = refuse BUSY
 requester (runs p) = do
   has ← the progress p
-  in-hand p has
+  nothing-in-hand p has
 
 -- "CHANNEL: a channel not in 1 to M"; "OTHER_END: sender isn't the writer, receiver or chooser isn't the reader"
 abbrev pub proper-end : Wiring → Way → ℕ → ℕ → Rule (Unit {0})

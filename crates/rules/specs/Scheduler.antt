@@ -40,7 +40,7 @@ use Rattle.rules.specs.Steps.{reports, look-step, park-step, copy-step, 
 use Rattle.rules.specs.Choice.{
   enable-look-step,
   raise-step,
-  place-step,
+  place-name-step,
   ready-from-look-step,
   ready-from-place-step,
   wait-step,
@@ -100,7 +100,7 @@ stage-step k p (clear w c q) = clear-step p w c q
 stage-step k p (wake w c q) = wake-step k p w c q
 stage-step k p (enable-look gs i) = enable-look-step p gs i
 stage-step k p (raise gs i) = raise-step p gs i
-stage-step k p (place-name gs i) = place-step p gs i
+stage-step k p (place-name gs i) = place-name-step p gs i
 stage-step k p (ready-from-look gs i) = ready-from-look-step p gs i
 stage-step k p (ready-from-place gs i) = ready-from-place-step p gs i
 stage-step k p (wait gs) = wait-step k p gs

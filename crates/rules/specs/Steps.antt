@@ -35,8 +35,8 @@ sleeps k p then t = do
   done (SLEPT p)
 
 -- "Numbers 5 to 8 leave the process running with nothing in hand"
-abbrev pub finishes : ℕ → Answer → Rule Answer
-finishes p answer = do
+abbrev pub leaves-running : ℕ → Answer → Rule Answer
+leaves-running p answer = do
   becomes progress p nothing
   done answer
 
@@ -116,12 +116,12 @@ clear-step p w c q = do
 
 -- what a process that has come to an outcome answers; "GOT's value is its data word"
 abbrev pub reports : ℕ → Outcome → Rule Answer
-reports p go = finishes p (GO p)
-reports p (sent c) = finishes p (SENT p c)
+reports p go = leaves-running p (GO p)
+reports p (sent c) = leaves-running p (SENT p c)
 reports p (got c) = do
   v ← the data-word p
-  finishes p (GOT p c v)
-reports p (chose c) = finishes p (CHOSE p c)
+  leaves-running p (GOT p c v)
+reports p (chose c) = leaves-running p (CHOSE p c)
 
 -- Wake (figure 7, 7): "the partner goes to the end of this core's active queue; answer SENT or GOT."
 abbrev pub wake-step : ℕ → ℕ → Way → ℕ → ℕ → Rule Answer

@@ -12,7 +12,7 @@ use Rattle.rules.specs.State.{Way, sending, receiving, Stage, look, park, copy,
 use Rattle.rules.specs.Items.{core-of, process-of}
 use Rattle.rules.specs.Rule.{run}
 use Rattle.rules.specs.Scheduler.{running-step, stage-step, work-step, step}
-use Rattle.rules.specs.Packing.{view, K-of, N-of, process-at, progress-from, ready-from}
+use Rattle.rules.specs.Packing.{view, K-of, N-of, process-at, progress-numbered, ready-numbered}
 use Rattle.rules.proofs.Tests.{within-means}
 use Rattle.answers.specs.Four.{four}
 use Rattle.answers.specs.declared.Reply.{Reply}
@@ -26,7 +26,7 @@ use Rattle.stepping.specs.Running.{Running}
 -- the progress of a number, with the words that are read
 unfoldable pub progress-at : List ℕ → ℕ → ℕ → ℕ → Progress
 progress-at t cores p n =
-    progress-from n (getD t (process-at cores p 7) 0) (getD t (process-at cores p 8) 0) (guards-at t cores p) (index-at t cores p) (ready-at t cores p)
+    progress-numbered n (getD t (process-at cores p 7) 0) (getD t (process-at cores p 8) 0) (guards-at t cores p) (index-at t cores p) (ready-at t cores p)
 
 -- no stage: nothing in hand, or an outcome
 abbrev NoStage : Progress → Type 0
@@ -36,7 +36,7 @@ NoStage (due o) = Unit {0}
 
 -- the numbers 0 and from 20 on are of no stage
 no-stage : (t : List ℕ) (cores p n : ℕ) → (n ≡ 0) ⊎ (20 ≤ n) → NoStage (progress-at t cores p n)
-unfolding progress-at progress-from
+unfolding progress-at progress-numbered
 no-stage t cores p n (inl e) = rw e tt
 no-stage t cores p n (inr h) = by-number (ℕ-discrete n 20) (ℕ-discrete n 21) (ℕ-discrete n 22) (ℕ-discrete n 23)
   where
@@ -56,7 +56,7 @@ pub record Exchange (t : List ℕ) (cores p : ℕ) (w : Way) (c q : ℕ) : Type 
   pub wake : progress-at t cores p (of-way w 5) ≡ doing (wake w c q)
 
 exchange : (t : List ℕ) (cores p : ℕ) (w : Way) → Exchange t cores p w (getD t (process-at cores p 7) 0) (getD t (process-at cores p 8) 0)
-unfolding progress-at progress-from
+unfolding progress-at progress-numbered
 exchange t cores p sending = record { look = refl; park = refl; copy = refl; clear = refl; wake = refl }
 exchange t cores p receiving = record { look = refl; park = refl; copy = refl; clear = refl; wake = refl }
 
@@ -79,14 +79,14 @@ module _ {t : List ℕ} {cores processes k p : ℕ} (running : Running t cores p
   progress-is n e =
       let in-range : p ≤ N-of t = subst (λ (m : ℕ). p ≤ m) (sym (N-is t (running .card .is-sound))) (range .1) in
       subst (λ (m : ℕ). process-of (view t) p .progress
-      ≡ progress-from n (getD t (process-at m p 7) 0) (getD t (process-at m p 8) 0)
+      ≡ progress-numbered n (getD t (process-at m p 7) 0) (getD t (process-at m p 8) 0)
       (take (getD t (process-at m p 9) 0) (tabulate (λ f. getD t (process-at m p f) 0) 12 8)) (getD t (process-at m p 10) 0)
-      (ready-from (getD t (process-at m p 11) 0)))
+      (ready-numbered (getD t (process-at m p 11) 0)))
       (sym (running .card .all-cores))
       (progress-seen t p (range .0) in-range
-      ∙ ap (λ (n : ℕ). progress-from n (getD t (process-at (K-of t) p 7) 0) (getD t (process-at (K-of t) p 8) 0)
+      ∙ ap (λ (n : ℕ). progress-numbered n (getD t (process-at (K-of t) p 7) 0) (getD t (process-at (K-of t) p 8) 0)
       (take (getD t (process-at (K-of t) p 9) 0) (tabulate (λ f. getD t (process-at (K-of t) p f) 0) 12 8))
-      (getD t (process-at (K-of t) p 10) 0) (ready-from (getD t (process-at (K-of t) p 11) 0)))
+      (getD t (process-at (K-of t) p 10) 0) (ready-numbered (getD t (process-at (K-of t) p 11) 0)))
       (ap (λ (m : ℕ). getD t (process-at m p 6) 0) (sym (running .card .all-cores)) ∙ sym e))
 
   -- the step of the core is that of the running process's progress
@@ -125,7 +125,7 @@ pub record Choosing (t : List ℕ) (cores p : ℕ) : Type 0 where
   pub number-19 : progress-at t cores p 19 ≡ doing (finish (guards-at t cores p) (ready-at t cores p))
 
 pub choosing : (t : List ℕ) (cores p : ℕ) → Choosing t cores p
-unfolding progress-at progress-from
+unfolding progress-at progress-numbered
 choosing t cores p =
     record {
       number-11 = refl;

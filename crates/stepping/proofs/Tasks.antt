@@ -15,7 +15,7 @@ use Rattle.rules.specs.Rule.{Ran, run, done, _>>_}
 use Rattle.rules.specs.Steps.{must-sleep, joins, has-task}
 use Rattle.rules.specs.Choice.{trigger-step}
 use Rattle.rules.specs.Scheduler.{work-step, step}
-use Rattle.rules.specs.Packing.{view, core-at, process-at, place-number, work-words, work-from}
+use Rattle.rules.specs.Packing.{view, core-at, process-at, place-number, work-words, work-numbered}
 use Rattle.packing.specs.Queues.{push-table}
 use Rattle.rules.proofs.Tests.{within-means}
 use Rattle.answers.specs.Four.{four}
@@ -52,10 +52,10 @@ task-number (free (wake-up q)) = lit≤ tt
 module _ {t : List ℕ} {cores processes k : ℕ} (card : Card t cores processes k) {p task q : ℕ} (p-is : p ≡ getD t (core-at k 0) 0)
     (task-is : task ≡ getD t (core-at k 1) 0) (q-is : q ≡ getD t (core-at k 2) 0) where
   -- the work of the core, as it is read
-  work-is : core-of (view t) k .work ≡ work-from p task q
+  work-is : core-of (view t) k .work ≡ work-numbered p task q
   work-is =
       work-seen t k (subst (λ (n : ℕ). k < n) (card .all-cores) (card .inside))
-      ∙ sym (λ i. work-from (p-is i) (task-is i) (q-is i))
+      ∙ sym (λ i. work-numbered (p-is i) (task-is i) (q-is i))
 
   pub is-running : (p ≡ 0 → ⊥) → Running t cores processes k p
   is-running h =

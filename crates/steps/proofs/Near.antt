@@ -7,7 +7,7 @@ use lib.Dec.{T}
 use lib.ListN.{length, getD}
 use Rattle.rules.specs.State.{Way, Stage, look, park, copy, clear, wake, wiring}
 use Rattle.rules.specs.Items.{channel-of}
-use Rattle.rules.specs.Packing.{view, channel-at, word-from}
+use Rattle.rules.specs.Packing.{view, channel-at, word-numbered}
 use Rattle.rules.specs.Soundness.{is-process, own-end}
 use Rattle.rules.proofs.Tests.{both, within-means}
 use Rattle.words.specs.Meaning.{meaning}
@@ -35,7 +35,7 @@ pub record Partner (t : List ℕ) (cores q : ℕ) : Type 0 where
 
 -- who is found in the channel's word stands there
 pub found-near : {t : List ℕ} {cores processes k p c : ℕ} → Near t cores processes k p c → {found h : Holder} → found ≡ h
-    → meaning found ≡ word-from (getD t (channel-at cores processes c 2) 0) → channel-of (view t) c .word ≡ meaning h
+    → meaning found ≡ word-numbered (getD t (channel-at cores processes c 2) 0) → channel-of (view t) c .word ≡ meaning h
 found-near {c = c} near told means = sym (who-stands (near .card) c (near .is-channel)) ∙ sym means ∙ ap meaning told
 
 module _ {t : List ℕ} {cores processes k p : ℕ} {x : Stage} (at : At t cores processes k p x) where

@@ -4,7 +4,7 @@ ghost use Prim.Native.Nat.{_<_};
 ghost use lib.ListN.{getD, set};
 ghost use Rattle.rules.specs.Numbers.{MOVED, SLEPT, yes-with};
 ghost use Rattle.rules.specs.State.{look, park, copy, clear, wake};
-ghost use Rattle.rules.specs.Packing.{process-at, channel-at, word-from};
+ghost use Rattle.rules.specs.Packing.{process-at, channel-at, word-numbered};
 ghost use Rattle.rules.specs.Steps.{look-step, park-step, copy-step, clear-step, wake-step};
 ghost use Rattle.answers.specs.Four.{four};
 ghost use Rattle.words.specs.Meaning.{meaning};
@@ -20,7 +20,7 @@ use words::Holder;
 // Who stands in the word of channel c.
 fn who_is_at(t: &[u32], cores: usize, processes: usize, c: u32) -> Holder
     requires { ⌜ HasChannel (now t) cores processes c ⌝ }
-    ensures { λ r. ⌜ meaning r ≡ word-from (getD (now (t .entry)) (channel-at cores processes c 2) 0) ⌝ }
+    ensures { λ r. ⌜ meaning r ≡ word-numbered (getD (now (t .entry)) (channel-at cores processes c 2) 0) ⌝ }
 {
     let word = table::channel_word(t, cores, processes, c, 2);
     words::who_stands(word)

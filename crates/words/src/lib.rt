@@ -3,7 +3,7 @@
 ghost use mathlib.Core.Path.{_≡_};
 ghost use Prim.Native.Nat.{_/_, _%_, _<_, _^_};
 ghost use Rattle.rules.specs.State.{plain, choosing};
-ghost use Rattle.rules.specs.Packing.{word-number, word-from};
+ghost use Rattle.rules.specs.Packing.{word-number, word-numbered};
 ghost use Rattle.words.specs.Meaning.{meaning};
 
 // Who stands in a channel word.
@@ -45,7 +45,7 @@ pub fn choosing_bit(word: u32) -> u32
 
 // Who stands in a channel word.
 pub fn who_stands(word: u32) -> Holder
-    ensures { λ r. ⌜ meaning r ≡ word-from word ⌝ }
+    ensures { λ r. ⌜ meaning r ≡ word-numbered word ⌝ }
 {
     if word == 0 {
         return Holder::Nobody;

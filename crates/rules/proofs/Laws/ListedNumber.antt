@@ -44,44 +44,44 @@ use Rattle.rules.specs.Claims.{listed, ListedNumber}
 use Rattle.rules.proofs.Laws.Whole.{comes-to, called}
 
 -- the number of an answer is listed and below 20
-pub answer-number : (a : Answer) → T (member (number-of (yes-with a)) listed) × T (ltb (number-of (yes-with a)) 20)
-answer-number BUILT = (tt, tt)
-answer-number (TAKEN p c) = (tt, tt)
-answer-number MOVED = (tt, tt)
-answer-number (SLEPT p) = (tt, tt)
-answer-number IDLE = (tt, tt)
-answer-number (GO p) = (tt, tt)
-answer-number (SENT p c) = (tt, tt)
-answer-number (GOT p c v) = (tt, tt)
-answer-number (CHOSE p c) = (tt, tt)
+pub answer-listed : (a : Answer) → T (member (number-of (yes-with a)) listed) × T (ltb (number-of (yes-with a)) 20)
+answer-listed BUILT = (tt, tt)
+answer-listed (TAKEN p c) = (tt, tt)
+answer-listed MOVED = (tt, tt)
+answer-listed (SLEPT p) = (tt, tt)
+answer-listed IDLE = (tt, tt)
+answer-listed (GO p) = (tt, tt)
+answer-listed (SENT p c) = (tt, tt)
+answer-listed (GOT p c v) = (tt, tt)
+answer-listed (CHOSE p c) = (tt, tt)
 
 -- the number of a refusal is listed and from 20 up
-pub refusal-number : (why : Refusal) → T (member (number-of (no-because why)) listed) × T (leb 20 (number-of (no-because why)))
-refusal-number SIZE = (tt, tt)
-refusal-number PAIRS = (tt, tt)
-refusal-number ROOM = (tt, tt)
-refusal-number NAME = (tt, tt)
-refusal-number SELF = (tt, tt)
-refusal-number ANSWER = (tt, tt)
-refusal-number DAMAGED = (tt, tt)
-refusal-number CORE = (tt, tt)
-refusal-number BUSY = (tt, tt)
-refusal-number AWAITED = (tt, tt)
-refusal-number GUARDS = (tt, tt)
-refusal-number CHANNEL = (tt, tt)
-refusal-number OTHER-END = (tt, tt)
-refusal-number TWICE = (tt, tt)
-refusal-number FAULT = (tt, tt)
+pub refusal-listed : (why : Refusal) → T (member (number-of (no-because why)) listed) × T (leb 20 (number-of (no-because why)))
+refusal-listed SIZE = (tt, tt)
+refusal-listed PAIRS = (tt, tt)
+refusal-listed ROOM = (tt, tt)
+refusal-listed NAME = (tt, tt)
+refusal-listed SELF = (tt, tt)
+refusal-listed ANSWER = (tt, tt)
+refusal-listed DAMAGED = (tt, tt)
+refusal-listed CORE = (tt, tt)
+refusal-listed BUSY = (tt, tt)
+refusal-listed AWAITED = (tt, tt)
+refusal-listed GUARDS = (tt, tt)
+refusal-listed CHANNEL = (tt, tt)
+refusal-listed OTHER-END = (tt, tt)
+refusal-listed TWICE = (tt, tt)
+refusal-listed FAULT = (tt, tt)
 
 -- whatever a rule comes to, the number returned is listed
 ran-listed : (t answer : List ℕ) (x : Ran Answer) → T (member (outcome-of t answer x .number) listed)
-ran-listed t answer (accepted a s) = answer-number a .0
-ran-listed t answer (refused why) = refusal-number why .0
+ran-listed t answer (accepted a s) = answer-listed a .0
+ran-listed t answer (refused why) = refusal-listed why .0
 
 -- and whatever a set-up is refused for, so is the number that it returns
 built-listed : (t : List ℕ) (s : State) (o : Option Refusal) → T (member (built t s o .number) listed)
 built-listed t s none = tt
-built-listed t s (some why) = refusal-number why .0
+built-listed t s (some why) = refusal-listed why .0
 
 -- Each call and each set-up returns one of the listed numbers.
 pub listed-number : ListedNumber

@@ -13,12 +13,12 @@ use Rattle.rules.specs.SetUp.{set-up-refusal, set-up-state}
 use Rattle.rules.specs.Calls.{outcome-of, built, set-up-call}
 use Rattle.rules.specs.Claims.{RefusalWritesNothing}
 use Rattle.rules.proofs.Laws.Whole.{comes-to, called}
-use Rattle.rules.proofs.Laws.ListedNumber.{answer-number}
+use Rattle.rules.proofs.Laws.ListedNumber.{answer-listed}
 
 -- an outcome with a refusal's number leaves the answer slice and the table
 ran-untouched : (t answer : List ℕ) (x : Ran Answer) → 20 ≤ outcome-of t answer x .number
     → (outcome-of t answer x .answer ≡ answer) × (outcome-of t answer x .table ≡ t)
-ran-untouched t answer (accepted a s) h = absurd (omega (arith, ltb→lt (number-of (yes-with a)) 20 (answer-number a .1)))
+ran-untouched t answer (accepted a s) h = absurd (omega (arith, ltb→lt (number-of (yes-with a)) 20 (answer-listed a .1)))
 ran-untouched t answer (refused why) h = (refl, refl)
 
 -- and so does a set-up with a refusal's number

@@ -19,7 +19,7 @@ use Rattle.rules.proofs.Packing.Means.{sound-means}
 use Rattle.rules.proofs.Validity.StaysValid.{stays-valid}
 use Rattle.rules.proofs.Validity.SetUp.{set-up-valid}
 use Rattle.rules.proofs.Laws.Whole.{whole, whole-by, Packs, packs-sound, sound-packs, on-packing}
-use Rattle.rules.proofs.Laws.ListedNumber.{refusal-number}
+use Rattle.rules.proofs.Laws.ListedNumber.{refusal-listed}
 
 -- a call that is accepted leaves the packing of a valid state
 pub leaves-packing : (c : Call) {t : List ℕ} {s : State} {a : Answer} {s′ : State} → T (sends-word (c .ask)) → Packs t s
@@ -38,7 +38,7 @@ ran-sound t answer (refused why) h keeps = h
 -- a set-up with number 0 leaves a sound table, if what is built where nothing is refused is valid
 built-sound : (t : List ℕ) (s : State) (o : Option Refusal) → (o ≡ none → T (valid s)) → built t s o .number ≡ 0 → T (sound (built t s o .table))
 built-sound t s none keeps h = sound-means (pack s) .1 (s, keeps refl, refl)
-built-sound t s (some why) keeps h = absurd (omega (arith, leb→le 20 (number-of (no-because why)) (refusal-number why .1)))
+built-sound t s (some why) keeps h = absurd (omega (arith, leb→le 20 (number-of (no-because why)) (refusal-listed why .1)))
 
 -- Every call on a sound table leaves it sound, and an accepted set-up leaves a sound table.
 pub stays-sound : StaysSound

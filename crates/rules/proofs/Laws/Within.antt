@@ -61,9 +61,9 @@ use Rattle.rules.specs.State.{
 use Rattle.rules.specs.Items.{Kind, core, place, data-word, alternation, progress, channel-word, Item, get, put, core-of}
 use Rattle.rules.specs.Rule.{Rule, done, refuse, read, write, Ran, run, go-on, _>>=_, _>>_}
 use Rattle.rules.specs.Steps.{must-sleep, wakes, parked, copies, reports, with-work}
-use Rattle.rules.specs.Choice.{guard, lowered, raised, placed, waits, disabled, first-ready, finished}
+use Rattle.rules.specs.Choice.{guard, lowered, raised, name-placed, waits, disabled, first-ready, finished}
 use Rattle.rules.specs.Scheduler.{taken, schedule, stage-step, running-step, work-step}
-use Rattle.rules.specs.Requests.{Request, send, receive, choose, yield, end, unless, in-hand, requester, proper-end, proper-guards, asks}
+use Rattle.rules.specs.Requests.{Request, send, receive, choose, yield, end, unless, nothing-in-hand, requester, proper-end, proper-guards, asks}
 use Rattle.rules.specs.Calls.{Ask, the-step, a-request, rule-of}
 use Rattle.rules.specs.Touched.{
   record-and-running,
@@ -174,7 +174,7 @@ module _ (P : Kind → ℕ → Type 0) where
     copies-within receiving q s h = search
 
     -- placing one's name in a guard, by its word
-    placed-within : (gs : List ℕ) (i : ℕ) (word : ChannelWord) (s : State) → P channel-word (guard gs i) → Within P (placed p gs i word) s
+    placed-within : (gs : List ℕ) (i : ℕ) (word : ChannelWord) (s : State) → P channel-word (guard gs i) → Within P (name-placed p gs i word) s
     placed-within gs i nobody s h = search
     placed-within gs i (plain q) s h = search
     placed-within gs i (choosing q) s h = search
@@ -266,18 +266,18 @@ module _ (P : Kind → ℕ → Type 0) where
   asks-within w k p c end s own h = search
 
   -- a request, by the progress of the running process
-  in-hand-within : (w : Wiring) (k p : ℕ) (c : Core) (r : Request) (has : Progress) (s : State)
-      → All P (record-and-running k (runs p)) → Listed c p r (run (in-hand p has >>= λ q. asks w k q r) s)
-      → Within P (in-hand p has >>= λ q. asks w k q r) s
-  in-hand-within w k p c r nothing s own h = asks-within w k p c r s own h
-  in-hand-within w k p c r (doing x) s own h = tt
-  in-hand-within w k p c r (due o) s own h = tt
+  nothing-in-hand-within : (w : Wiring) (k p : ℕ) (c : Core) (r : Request) (has : Progress) (s : State)
+      → All P (record-and-running k (runs p)) → Listed c p r (run (nothing-in-hand p has >>= λ q. asks w k q r) s)
+      → Within P (nothing-in-hand p has >>= λ q. asks w k q r) s
+  nothing-in-hand-within w k p c r nothing s own h = asks-within w k p c r s own h
+  nothing-in-hand-within w k p c r (doing x) s own h = tt
+  nothing-in-hand-within w k p c r (due o) s own h = tt
 
   -- a request, by the work of the core
   requester-within : (w : Wiring) (k : ℕ) (c : Core) (r : Request) (work : Work) (s : State)
       → All P (record-and-running k work) → All P (accepted-items (with-work work c) r (run (requester work >>= λ q. asks w k q r) s))
       → Within P (requester work >>= λ q. asks w k q r) s
-  requester-within w k c r (runs p) s own h = (own .1 .0, in-hand-within w k p c r (get progress s p) s own h)
+  requester-within w k c r (runs p) s own h = (own .1 .0, nothing-in-hand-within w k p c r (get progress s p) s own h)
   requester-within w k c r (free t) s own h = tt
 
   -- the core's record is listed whatever the core's work

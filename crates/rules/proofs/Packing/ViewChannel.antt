@@ -9,7 +9,7 @@ use borrow.Author.Tests.{eq-eqb, ne-eqb}
 use Rattle.rules.specs.Lists.{if_then_else_}
 use Rattle.rules.specs.State.{ChannelWord, nobody, plain, choosing, State, Wiring, wiring}
 use Rattle.rules.specs.Items.{channel-of}
-use Rattle.rules.specs.Packing.{word-number, word-from, channel-words, pack, channel-word, view-channel}
+use Rattle.rules.specs.Packing.{word-number, word-numbered, channel-words, pack, word-of-channel, view-channel}
 use Rattle.rules.specs.Soundness.{valid-word}
 use Rattle.rules.proofs.Tests.{within-means, not-zero}
 use Rattle.rules.proofs.Packing.Reflect.{Valid}
@@ -17,13 +17,13 @@ use Rattle.rules.proofs.Packing.Reading.{channel-word-of-pack}
 
 -- a number that isn't 0, as a channel word: its half, plain where it is even
 word-from-number : (n : ℕ) (even : Bool) → 1 ≤ n → eqb (n % 2) 0 ≡ even
-    → word-from n ≡ (if even then plain (n / 2) else choosing (n / 2))
+    → word-numbered n ≡ (if even then plain (n / 2) else choosing (n / 2))
 word-from-number n even l e =
     ap (λ (t : Bool). if t then nobody else if eqb (n % 2) 0 then plain (n / 2) else choosing (n / 2)) (not-zero n l)
     ∙ ap (λ (t : Bool). if t then plain (n / 2) else choosing (n / 2)) e
 
 -- a channel word is read back from its number
-pub word-back : (w : Wiring) (x : ChannelWord) → T (valid-word w x) → word-from (word-number x) ≡ x
+pub word-back : (w : Wiring) (x : ChannelWord) → T (valid-word w x) → word-numbered (word-number x) ≡ x
 word-back w nobody h = refl
 word-back w (plain q) h =
     let r = within-means 1 (w .N) q h in
@@ -38,9 +38,9 @@ pub view-channel-back : (s : State) → Valid s → (c : ℕ) → 1 ≤ c → c 
 unfolding view-channel channel-words
 view-channel-back s v c l b =
     let x = channel-of s c in
-    let at : (f : ℕ) → f < 4 → channel-word (pack s) c f ≡ getD (channel-words x) f 0 = λ f. channel-word-of-pack s c f l b in
+    let at : (f : ℕ) → f < 4 → word-of-channel (pack s) c f ≡ getD (channel-words x) f 0 = λ f. channel-word-of-pack s c f l b in
     let writer = at 0 (lit< tt) in
     let reader = at 1 (lit< tt) in
-    let word = ap word-from (at 2 (lit< tt)) ∙ word-back (wiring s) (x .word) (v .channels c l b .word) in
+    let word = ap word-numbered (at 2 (lit< tt)) ∙ word-back (wiring s) (x .word) (v .channels c l b .word) in
     let transfers = at 3 (lit< tt) in
     λ i. record { ends = record { writer = writer i; reader = reader i }; word = word i; transfers = transfers i }

@@ -9,7 +9,7 @@ use lib.ListN.{length, getD}
 use Rattle.rules.specs.Lists.{if_then_else_, bit, times, first, last, follows}
 use Rattle.rules.specs.State.{no-task, trigger, wake-up, Work, runs, free, Core, queues-of, State, Wiring, wiring}
 use Rattle.rules.specs.Items.{core-of}
-use Rattle.rules.specs.Packing.{work-words, heads, core-words, pack, N-of, core-word, process-word, work-from, chain, view-core}
+use Rattle.rules.specs.Packing.{work-words, heads, core-words, pack, N-of, word-of-core, word-of-process, work-numbered, chain, view-core}
 use Rattle.rules.specs.Soundness.{valid-work}
 use Rattle.rules.proofs.Packing.Blocks.{length-work-words, first-part, second-part, pack-holds}
 use Rattle.rules.proofs.Tests.{within-means, not-zero}
@@ -21,7 +21,7 @@ use Rattle.rules.proofs.Packing.Reading.{bit-back, header-of-pack, link
 
 -- what a core does, of its three words
 abbrev work-of-words : List ℕ → Work
-work-of-words l = work-from (getD l 0 0) (getD l 1 0) (getD l 2 0)
+work-of-words l = work-numbered (getD l 0 0) (getD l 1 0) (getD l 2 0)
 
 -- what a core does is read back from its words
 work-back : (w : Wiring) (x : Work) → T (valid-work w x) → work-of-words (work-words x) ≡ x
@@ -49,7 +49,7 @@ queue-words c =
 
 -- the link of each process: its word 20 + f
 abbrev link-of : State → ℕ → ℕ → ℕ
-link-of s f p = process-word (pack s) p (20 + f)
+link-of s f p = word-of-process (pack s) p (20 + f)
 
 -- a list of distinct processes is read back from its first, if the link of each is what follows it
 list-back : (s : State) (f : ℕ) → f < 4 → (l : List ℕ) → Among (length (s .processes)) l
@@ -61,21 +61,21 @@ list-back s f b l a e =
 
 module _ (s : State) (v : Valid s) (k : ℕ) (b : k < length (s .cores)) where
   -- a word of the core's work
-  pub work-word : (f : ℕ) → f < 3 → core-word (pack s) k f ≡ getD (work-words (core-of s k .work)) f 0
+  pub work-word : (f : ℕ) → f < 3 → word-of-core (pack s) k f ≡ getD (work-words (core-of s k .work)) f 0
   unfolding core-words
   work-word f c =
       pack-holds s .core k f b (omega arith)
       ∙ first-part (work-words (core-of s k .work)) (queue-words (core-of s k)) 3 f (length-work-words (core-of s k .work)) c
 
   -- a word behind it
-  pub queue-word : (f : ℕ) → f < 13 → core-word (pack s) k (3 + f) ≡ getD (queue-words (core-of s k)) f 0
+  pub queue-word : (f : ℕ) → f < 13 → word-of-core (pack s) k (3 + f) ≡ getD (queue-words (core-of s k)) f 0
   unfolding core-words
   queue-word f c =
       pack-holds s .core k (3 + f) b (omega arith)
       ∙ second-part (work-words (core-of s k .work)) (queue-words (core-of s k)) 3 f (length-work-words (core-of s k .work))
 
   -- what the core does is read back
-  work-read : work-from (core-word (pack s) k 0) (core-word (pack s) k 1) (core-word (pack s) k 2) ≡ core-of s k .work
+  work-read : work-numbered (word-of-core (pack s) k 0) (word-of-core (pack s) k 1) (word-of-core (pack s) k 2) ≡ core-of s k .work
   work-read =
       let x = core-of s k .work in
       cc (work-word 0 (lit< tt), work-word 1 (lit< tt), work-word 2 (lit< tt), work-back (wiring s) x (v .cores k b .work))
@@ -85,7 +85,7 @@ module _ (s : State) (v : Valid s) (k : ℕ) (b : k < length (s .cores)) where
   queue-read i c = list-back s 0 (lit< tt) (queue-of s k i) (queue-among s v k b i c) (next-follows s v k b i c)
 
   -- the run queue is read back from the first head: the heads, and of each its batch
-  run-queue-read : map (chain (link-of s 0) (N-of (pack s))) (chain (link-of s 3) (N-of (pack s)) (core-word (pack s) k 8)) ≡ core-of s k .run-queue
+  run-queue-read : map (chain (link-of s 0) (N-of (pack s))) (chain (link-of s 3) (N-of (pack s)) (word-of-core (pack s) k 8)) ≡ core-of s k .run-queue
   run-queue-read =
       let queue = chain (link-of s 0) (N-of (pack s)) in
       let batches = core-of s k .run-queue in
@@ -99,5 +99,5 @@ module _ (s : State) (v : Valid s) (k : ℕ) (b : k < length (s .cores)) where
   view-core-back =
       let active = ap (chain (link-of s 0) (N-of (pack s))) (queue-word 0 (lit< tt)) ∙ queue-read 0 (omega arith) in
       let dispatch = queue-word 3 (lit< tt) in
-      let mark = bit-back (core-word (pack s) k 7) (core-of s k .mark) (queue-word 4 (lit< tt)) in
+      let mark = bit-back (word-of-core (pack s) k 7) (core-of s k .mark) (queue-word 4 (lit< tt)) in
       λ i. record { work = work-read i; active = active i; dispatch = dispatch i; mark = mark i; run-queue = run-queue-read i }

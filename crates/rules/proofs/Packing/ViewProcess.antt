@@ -51,10 +51,10 @@ use Rattle.rules.specs.Packing.{
   of-choice,
   progress-words,
   pack,
-  process-word,
-  place-from,
-  ready-from,
-  progress-from,
+  word-of-process,
+  place-numbered,
+  ready-numbered,
+  progress-numbered,
   view-process,
 }
 use Rattle.rules.specs.Soundness.{own-end, own-guards, in-list, ready-in-list, valid-enabling, valid-disabling, valid-progress}
@@ -66,7 +66,7 @@ use Rattle.rules.proofs.Packing.ReadLaws.{state-words}
 use Rattle.rules.proofs.Packing.Reading.{bit-back, state-word, progress-word}
 
 -- a place is read back from its number
-place-back : (x : Place) → place-from (place-number x) ≡ x
+place-back : (x : Place) → place-numbered (place-number x) ≡ x
 place-back running = refl
 place-back queued = refl
 place-back asleep = refl
@@ -80,39 +80,39 @@ padded-back zero (x ∷ xs) b = absurd (omega arith)
 padded-back (suc n) (x ∷ xs) b = ap (λ (l : List ℕ). x ∷ l) (padded-back n xs (omega arith))
 
 -- a first ready guard is read back from its number
-ready-back : (gs : List ℕ) (r : Option ℕ) → T (ready-in-list gs r) → ready-from (ready-number r) ≡ r
+ready-back : (gs : List ℕ) (r : Option ℕ) → T (ready-in-list gs r) → ready-numbered (ready-number r) ≡ r
 ready-back gs none h = refl
 ready-back gs (some i) h = ap (λ (t : Bool). if t then none else some i) (not-zero i (within-means 1 (length gs) i h .0))
 
 -- the progress of 14 words: number, channel, partner, number of guards, index, first ready guard, guards
 abbrev progress-of-words : List ℕ → Progress
 progress-of-words l =
-    progress-from (getD l 0 0) (getD l 1 0) (getD l 2 0) (take (getD l 3 0) (drop 6 l)) (getD l 4 0) (ready-from (getD l 5 0))
+    progress-numbered (getD l 0 0) (getD l 1 0) (getD l 2 0) (take (getD l 3 0) (drop 6 l)) (getD l 4 0) (ready-numbered (getD l 5 0))
 
 module _ (w : Wiring) (p : ℕ) where
   -- the words of a choice, as those of a progress: its guards and its first ready guard are read back
   choice-back : (number : ℕ) (gs : List ℕ) (i : ℕ) (r : Option ℕ) → T (own-guards w p gs) → T (ready-in-list gs r)
-      → progress-of-words (of-choice number gs i r) ≡ progress-from number 0 0 gs i r
+      → progress-of-words (of-choice number gs i r) ≡ progress-numbered number 0 0 gs i r
   choice-back number gs i r h g =
       let t = three (within 1 8 (length gs)) (all (own-end w receiving p) gs) (distinct gs) h in
       let guards : take (length gs) (padded 8 gs) ≡ gs = padded-back 8 gs (within-means 1 8 (length gs) (t .0) .1) in
-      let ready : ready-from (ready-number r) ≡ r = ready-back gs r g in
+      let ready : ready-numbered (ready-number r) ≡ r = ready-back gs r g in
       cc
 
   -- the same for a stage with a guard index before the wait
   enabling-back : (number : ℕ) (gs : List ℕ) (i : ℕ) → T (valid-enabling w p gs i)
-      → progress-of-words (of-choice number gs i none) ≡ progress-from number 0 0 gs i none
+      → progress-of-words (of-choice number gs i none) ≡ progress-numbered number 0 0 gs i none
   enabling-back number gs i h = choice-back number gs i none (both (own-guards w p gs) (in-list gs i) h .0) tt
 
   -- and after it
   disabling-back : (number : ℕ) (gs : List ℕ) (i : ℕ) (r : Option ℕ) → T (valid-disabling w p gs i r)
-      → progress-of-words (of-choice number gs i r) ≡ progress-from number 0 0 gs i r
+      → progress-of-words (of-choice number gs i r) ≡ progress-numbered number 0 0 gs i r
   disabling-back number gs i r h =
       let t = three (own-guards w p gs) (in-list gs i) (ready-in-list gs r) h in choice-back number gs i r (t .0) (t .2)
 
   -- a valid progress is read back from its words
   progress-back : (x : Progress) → T (valid-progress w p x) → progress-of-words (progress-words x) ≡ x
-  unfolding progress-words progress-from
+  unfolding progress-words progress-numbered
   progress-back nothing h = refl
   progress-back (doing (look sending c)) h = refl
   progress-back (doing (park sending c)) h = refl
@@ -140,8 +140,8 @@ module _ (w : Wiring) (p : ℕ) where
 
 module _ (s : State) (v : Valid s) (p : ℕ) (l : 1 ≤ p) (b : p ≤ length (s .processes)) where
   -- the eight words of a process from the 12th on are those of its guards
-  guard-words : tabulate (process-word (pack s) p) 12 8 ≡ drop 6 (progress-words (process-of s p .progress))
-  guard-words = tabulate-back (process-word (pack s) p) 12 8 0 (drop 6 words) (sym size) each
+  guard-words : tabulate (word-of-process (pack s) p) 12 8 ≡ drop 6 (progress-words (process-of s p .progress))
+  guard-words = tabulate-back (word-of-process (pack s) p) 12 8 0 (drop 6 words) (sym size) each
     where
       words : List ℕ
       words = progress-words (process-of s p .progress)
@@ -149,17 +149,17 @@ module _ (s : State) (v : Valid s) (p : ℕ) (l : 1 ≤ p) (b : p ≤ length (s 
       size : length (drop 6 words) ≡ 8
       size = simp length-drop (omega (arith, length-progress-words (process-of s p .progress)))
 
-      each : (i : ℕ) → i < length (drop 6 words) → process-word (pack s) p (12 + i) ≡ getD (drop 6 words) i 0
+      each : (i : ℕ) → i < length (drop 6 words) → word-of-process (pack s) p (12 + i) ≡ getD (drop 6 words) i 0
       each i c =
           let e : 12 + i ≡ 6 + (6 + i) = omega arith in
-          ap (process-word (pack s) p) e ∙ progress-word s p l b (6 + i) (omega (arith, size)) ∙ sym (getD-drop 6 words i 0)
+          ap (word-of-process (pack s) p) e ∙ progress-word s p l b (6 + i) (omega (arith, size)) ∙ sym (getD-drop 6 words i 0)
 
   -- its progress is read back
-  progress-read : let w = process-word (pack s) p in
-      progress-from (w 6) (w 7) (w 8) (take (w 9) (tabulate w 12 8)) (w 10) (ready-from (w 11)) ≡ process-of s p .progress
+  progress-read : let w = word-of-process (pack s) p in
+      progress-numbered (w 6) (w 7) (w 8) (take (w 9) (tabulate w 12 8)) (w 10) (ready-numbered (w 11)) ≡ process-of s p .progress
   progress-read =
       let x = process-of s p .progress in
-      let at : (f : ℕ) → f < 14 → process-word (pack s) p (6 + f) ≡ getD (progress-words x) f 0 = progress-word s p l b in
+      let at : (f : ℕ) → f < 14 → word-of-process (pack s) p (6 + f) ≡ getD (progress-words x) f 0 = progress-word s p l b in
       let back = progress-back (wiring s) p x (v .processes p l b .in-hand) in
       cc (at 0 (lit< tt), at 1 (lit< tt), at 2 (lit< tt), at 3 (lit< tt), at 4 (lit< tt), at 5 (lit< tt), guard-words, back)
 
@@ -168,9 +168,9 @@ module _ (s : State) (v : Valid s) (p : ℕ) (l : 1 ≤ p) (b : p ≤ length (s 
   unfolding view-process
   view-process-back =
       let r = process-of s p in
-      let w : ℕ → ℕ = process-word (pack s) p in
+      let w : ℕ → ℕ = word-of-process (pack s) p in
       let at : (f : ℕ) → f < 6 → w f ≡ getD (state-words r) f 0 = state-word s p l b in
-      let place = ap place-from (at 0 (lit< tt)) ∙ place-back (r .place) in
+      let place = ap place-numbered (at 0 (lit< tt)) ∙ place-back (r .place) in
       let data-word = at 1 (lit< tt) in
       let enabling = bit-back (w 2) (r .alternation .enabling) (at 2 (lit< tt)) in
       let not-ready = bit-back (w 3) (r .alternation .not-ready) (at 3 (lit< tt)) in

@@ -43,8 +43,8 @@ use Rattle.rules.specs.Choice.{
   after-enable-look,
   enable-look-step,
   raise-step,
-  placed,
-  place-step,
+  name-placed,
+  place-name-step,
   ready-from-look-step,
   ready-from-place-step,
   waits,
@@ -151,10 +151,10 @@ module _ {w : Wiring} {k p : ℕ} {s : State} (h : Runs w k p s) where
       raise-keeps = raised-keeps (Valid w) s _ (λ m small. next-keeps (counted _ small) _ (at-guard i inside)) _ count-small
 
       -- place
-      pub place-keeps : Accepts (Valid w) (run (place-step p gs i) s)
+      pub place-keeps : Accepts (Valid w) (run (place-name-step p gs i) s)
       place-keeps = by-word (get channel-word s (guard gs i))
         where
-          by-word : (x : ChannelWord) → Accepts (Valid w) (run (placed p gs i x) s)
+          by-word : (x : ChannelWord) → Accepts (Valid w) (run (name-placed p gs i x) s)
           by-word nobody = next-keeps (its-word (choosing p) (h .named)) _ enabled
           by-word (plain q) = next-keeps h _ (at-guard i inside)
           by-word (choosing q) = next-keeps h _ (at-guard i inside)

@@ -39,7 +39,7 @@ use Rattle.rules.specs.Requests.{
   yield,
   end,
   unless,
-  in-hand,
+  nothing-in-hand,
   requester,
   proper-end,
   proper-guards,
@@ -140,7 +140,7 @@ module _ {w : Wiring} {k p : ℕ} {s : State} (h : Runs w k p s) (idle : get pro
 
 module _ {w : Wiring} {s : State} (k : ℕ) (v : Valid w s) (on : k < w .K) (r : Request) (small : T (sends-word (a-request r))) where
   -- whether or not it has a request in hand
-  idle-keeps : (p : ℕ) → Runs w k p s → (x : Progress) → get progress s p ≡ x → Accepts (Valid w) (run (in-hand p x >>= λ q. asks w k q r) s)
+  idle-keeps : (p : ℕ) → Runs w k p s → (x : Progress) → get progress s p ≡ x → Accepts (Valid w) (run (nothing-in-hand p x >>= λ q. asks w k q r) s)
   idle-keeps p h nothing e = asks-keeps h e r small
   idle-keeps p h (doing x) e = tt
   idle-keeps p h (due o) e = tt
