@@ -33,8 +33,8 @@ bench-sheet =
       case-6 = (refl, refl, refl);
       case-7 = (refl, refl);
       case-8 = (refl, refl, refl);
-      case-9 = (refl, refl, refl, refl, refl);
-      case-10 = (refl, refl);
+      case-9 = (refl, refl, refl, refl);
+      case-10 = refl;
       case-11 = (refl, refl);
       case-13 = (refl, refl, refl);
     }

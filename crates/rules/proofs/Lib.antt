@@ -7,3 +7,4 @@ pub mod Packing
 pub mod Validity
 pub mod Laws
 pub mod BenchSheet
+pub mod Examples

@@ -6,7 +6,7 @@ use mathlib.Core.List.{List, [], _∷_, _++_, map}
 use lib.ListN.{replicate}
 use Rattle.rules.specs.Lists.{tabulate, from, member, if_then_else_}
 use Rattle.rules.specs.Numbers.{Answer, BUILT, TAKEN, MOVED, SLEPT, GO, SENT, GOT, CHOSE, ROOM, yes-with, no-because, number-of, words-of}
-use Rattle.rules.specs.State.{queued, ended, go, nothing, due, Alternation, Process, no-task, trigger, wake-up, free, State}
+use Rattle.rules.specs.State.{Place, queued, asleep, ended, go, nothing, due, Alternation, Process, no-task, trigger, wake-up, Work, free}
 use Rattle.rules.specs.Items.{core-of, process-of, no-alternation, put, alternation, transfers}
 use Rattle.rules.specs.Requests.{send, receive, choose}
 use Rattle.rules.specs.Packing.{pack, view, word-of-channel}
@@ -150,27 +150,54 @@ Case-8 =
 abbrev pub one-triggers : List Turn
 one-triggers = steps 0 ∷ steps 0 ∷ sends 0 1 77 ∷ steps 0 ∷ steps 0 ∷ []
 
+-- A trigger of process 2, but for its alternation state: what the step answers, and what it leaves.
+pub record Triggered : Type 0 where
+  pub answer : List (List ℕ)
+  pub alternation : Alternation
+  pub place : Place
+  pub work : Work
+  pub active : List ℕ
+
+abbrev pub trigger-table : Alternation → List ℕ
+trigger-table a = pack (put alternation 2 a (view (after (pair 2) (two-waits ++ one-triggers))))
+
+abbrev pub left-by : List ℕ → List Turn → Triggered
+left-by t turns =
+    let s = view (after t turns) in
+    let two = process-of s 2 in
+    let core-0 = core-of s 0 in
+    record {
+      answer = answers t turns;
+      alternation = two .alternation;
+      place = two .place;
+      work = core-0 .work;
+      active = core-0 .active;
+    }
+
 -- 9. "Trigger on waiting, count 2: count 1, wake follows."
 abbrev pub Case-9 : Type 0
 Case-9 =
     (answers (after (pair 2) two-waits) (one-triggers ++ (steps 0 ∷ steps 0 ∷ []))
     ≡ said (MOVED ∷ GO 1 ∷ TAKEN 1 1 ∷ MOVED ∷ SLEPT 1 ∷ MOVED ∷ MOVED ∷ []))
     × (core-of (view (after (pair 2) (two-waits ++ one-triggers))) 0 .work ≡ free (trigger 2))
-    × (core-of (view (after (pair 2) (two-waits ++ one-triggers ++ (steps 0 ∷ [])))) 0 .work ≡ free (wake-up 2))
-    × (process-of (view (after (pair 2) (two-waits ++ one-triggers ++ (steps 0 ∷ [])))) 2 .alternation ≡ no-flags 1)
-    × (core-of (view (after (pair 2) (two-waits ++ one-triggers ++ (steps 0 ∷ steps 0 ∷ [])))) 0 .active ≡ 2 ∷ [])
-
--- the same trigger, but for the alternation state of process 2
-abbrev pub triggered : Alternation → State
-triggered a = view (after (pack (put alternation 2 a (view (after (pair 2) (two-waits ++ one-triggers))))) (steps 0 ∷ []))
+    × (left-by (after (pair 2) (two-waits ++ one-triggers)) (steps 0 ∷ [])
+    ≡ record { answer = said (MOVED ∷ []); alternation = no-flags 1; place = asleep; work = free (wake-up 2); active = [] })
+    × (left-by (after (pair 2) (two-waits ++ one-triggers)) (steps 0 ∷ steps 0 ∷ [])
+    ≡ record { answer = said (MOVED ∷ MOVED ∷ []); alternation = no-flags 1; place = queued; work = free no-task; active = 2 ∷ [] })
 
 -- 10. "Trigger, no flags, count 2: count 1, no wake."
 abbrev pub Case-10 : Type 0
-Case-10 = (process-of (triggered (no-flags 2)) 2 .alternation ≡ no-flags 1) × (core-of (triggered (no-flags 2)) 0 .work ≡ free no-task)
+Case-10 =
+    left-by (trigger-table (no-flags 2)) (steps 0 ∷ [])
+    ≡ record { answer = said (MOVED ∷ []); alternation = no-flags 1; place = asleep; work = free no-task; active = [] }
 
 -- 11. "Trigger, no flags, count 1: count 0, wake follows."
 abbrev pub Case-11 : Type 0
-Case-11 = (process-of (triggered (no-flags 1)) 2 .alternation ≡ no-flags 0) × (core-of (triggered (no-flags 1)) 0 .work ≡ free (wake-up 2))
+Case-11 =
+    (left-by (trigger-table (no-flags 1)) (steps 0 ∷ [])
+    ≡ record { answer = said (MOVED ∷ []); alternation = no-flags 0; place = asleep; work = free (wake-up 2); active = [] })
+    × (left-by (trigger-table (no-flags 1)) (steps 0 ∷ steps 0 ∷ [])
+    ≡ record { answer = said (MOVED ∷ MOVED ∷ []); alternation = no-flags 0; place = queued; work = free no-task; active = 2 ∷ [] })
 
 -- 13. "Transfers 4294967295, copy: 0." Process 2 has looked at the word of process 1, and copies.
 abbrev pub two-looks : List Turn

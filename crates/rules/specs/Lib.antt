@@ -13,5 +13,6 @@ pub mod Soundness
 pub mod Calls
 pub mod Touched
 pub mod BenchSheet
+pub mod Examples
 pub mod Shortcuts
 pub mod Claims
