@@ -33,6 +33,7 @@ examples =
       of-scheduling = refl;
       of-requests = refl;
       of-busy = refl;
+      of-set-up = refl;
       without-core = refl;
       of-sizes = refl;
       of-numbers = refl;

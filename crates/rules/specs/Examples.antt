@@ -10,6 +10,7 @@ pub mod Tables
 use mathlib.Core.Path.{_≡_}
 use mathlib.Core.Bool.{true, false}
 use mathlib.Core.List.{List, [], _∷_, _++_, map}
+use Rattle.rules.specs.SetUp.{set-up-state}
 use Rattle.rules.specs.Packing.{pack}
 use Rattle.rules.specs.Calls.{Ask}
 use Rattle.rules.specs.Touched.{touched}
@@ -18,7 +19,7 @@ use Rattle.rules.specs.Examples.Card.{card, Example, seen, said}
 use Rattle.rules.specs.Examples.Exchange.{exchange}
 use Rattle.rules.specs.Examples.Choosing.{enabled, disabled, tasks}
 use Rattle.rules.specs.Examples.Scheduling.{scheduled}
-use Rattle.rules.specs.Examples.Asking.{asked, busy, asks}
+use Rattle.rules.specs.Examples.Asking.{asked, busy, asks, built}
 use Rattle.rules.specs.Examples.Bounds.{Bound, size-bounds, number-bounds, progress-bounds, place-bounds, tested}
 use Rattle.rules.specs.Examples.Tables.{hand-table, every-kind, every-kind-table, words-of-rows}
 
@@ -36,6 +37,7 @@ pub record Examples : Type 0 where
   pub of-scheduling : Hold scheduled
   pub of-requests : Hold asked
   pub of-busy : Hold busy
+  pub of-set-up : set-up-state 3 5 (1 ∷ 2 ∷ 5 ∷ 3 ∷ []) ≡ built
   -- "A call naming a core that doesn't exist touches nothing."
   pub without-core : map (touched card 2) asks ≡ map (λ (a : Ask). []) asks
   pub of-sizes : Bounded size-bounds

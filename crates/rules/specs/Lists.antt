@@ -1,4 +1,6 @@
 -- The few functions on lists and tests that the definitions share. Numbers, lists and tests are the library's own.
+-- Here and below, `abbrev` and `pub` say nothing of what is defined: the prover always reads an `abbrev` as what it stands for, and other
+-- files may cite what is `pub`.
 use Prim.Native.Nat.{ℕ, zero, suc, _+_}
 use mathlib.Core.Bool.{Bool, true, false, _&&_, _||_}
 use mathlib.Core.List.{List, [], _∷_}

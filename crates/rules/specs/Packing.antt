@@ -38,6 +38,7 @@ work-words (free (wake-up q)) = 0 ∷ 2 ∷ q ∷ []
 abbrev pub heads : List (List ℕ) → List ℕ
 heads batches = map first batches
 
+-- (`unfoldable` is for the prover, as `abbrev` is: it reads what is defined as what it stands for only where a proof says so.)
 -- A core's 16 words: its work; the active queue's first, last and size; dispatch count; mark; heads of the first and the last batch.
 unfoldable pub core-words : Core → List ℕ
 core-words c =

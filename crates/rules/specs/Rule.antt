@@ -1,4 +1,6 @@
 -- A rule is a small program over items: it reads, writes, answers or refuses. What it touches can be read off it.
+-- `x ← the k n`: x is the value that item k of core, process or channel n has now. `becomes k n v`: that item has the value v from here on.
+-- `refuse why`: the call is refused, and nothing that the rule wrote stands. `done a`: the rule ends with a, a call's rule with its answer.
 use Prim.Native.Nat.{ℕ}
 use Rattle.rules.specs.Numbers.{Refusal}
 use Rattle.rules.specs.State.{State}

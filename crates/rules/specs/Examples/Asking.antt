@@ -1,13 +1,14 @@
--- Requests, accepted and refused.
+-- Requests, accepted and refused, and what set-up builds.
 use Prim.Native.Nat.{ℕ}
 use mathlib.Core.Bool.{true, false}
 use mathlib.Core.List.{List, [], _∷_, _++_, map}
+use lib.ListN.{replicate}
 use Rattle.rules.specs.Numbers.{TAKEN, BUSY, GUARDS, CHANNEL, OTHER-END, TWICE}
-use Rattle.rules.specs.State.{queued, ended, sending, receiving, look, wake, enable-look, go, doing, due, no-task, free}
+use Rattle.rules.specs.State.{queued, ended, sending, receiving, look, wake, enable-look, go, doing, due, no-task, free, State}
 use Rattle.rules.specs.Items.{core, place, data-word, alternation, progress}
 use Rattle.rules.specs.Requests.{Request, send, receive, choose, yield, end}
 use Rattle.rules.specs.Calls.{Ask, the-step, a-request}
-use Rattle.rules.specs.Examples.Card.{_of_is_, _#_, a-core, alternating, core-with, in-queues, Example, _changing_, refused-for, runs-with, own, _asks_given_gives_besides_}
+use Rattle.rules.specs.Examples.Card.{_of_is_, _#_, a-core, a-process, a-channel, alternating, core-with, in-queues, Example, _changing_, refused-for, runs-with, own, _asks_given_gives_besides_}
 
 abbrev pub asked : List Example
 asked =
@@ -57,3 +58,14 @@ busy = map on-free-core requests ++ map with-request-in-hand requests
 -- every kind of call but a set-up
 abbrev pub asks : List Ask
 asks = the-step ∷ map a-request requests
+
+-- "process p is alone in a batch on core (p-1) mod K, in order of p; all else 0 or none; GO is the outcome to report"
+abbrev pub built : State
+built =
+    record {
+      cores =
+          a-core (free no-task) [] 0 false ((1 ∷ []) ∷ (4 ∷ []) ∷ []) ∷ a-core (free no-task) [] 0 false ((2 ∷ []) ∷ (5 ∷ []) ∷ [])
+          ∷ a-core (free no-task) [] 0 false ((3 ∷ []) ∷ []) ∷ [];
+      processes = replicate 5 (a-process queued 0 (due go));
+      channels = a-channel 1 2 0 ∷ a-channel 5 3 0 ∷ [];
+    }
