@@ -10,3 +10,4 @@ pub mod ViewProcess
 pub mod ViewChannel
 pub mod Means
 pub mod Unused
+pub mod Kept

@@ -5,8 +5,8 @@ use mathlib.Core.Bool.{Bool, true}
 use mathlib.Core.List.{List, [], _∷_, List·Memᴰ}
 use mathlib.Core.Logic.{_↔_}
 use lib.Dec.{T}
-use lib.ListN.{length}
-use Rattle.rules.specs.Lists.{within, member, total, times}
+use lib.ListN.{length, getD}
+use Rattle.rules.specs.Lists.{within, total, member, times, first, last}
 use Rattle.rules.specs.State.{Way, copy, doing, no-task, runs, free, Core, State, wiring}
 use Rattle.rules.specs.Items.{progress, transfers, Item, core-of, get}
 use Rattle.rules.specs.Requests.{send, receive, choose, yield, end}
@@ -76,6 +76,15 @@ pub record UnusedWordsZero : Type 0 where
   pub header : (s : State) (f : ℕ) → T (within 3 7 f) → word-at (pack s) f ≡ 0
   pub cores : (s : State) (k : ℕ) → k < length (s .cores) → UnusedOfCore (core-of s k) (word-of-core (pack s) k)
   pub processes : (s : State) (p : ℕ) → T (is-process (wiring s) p) → UnusedOfProcess s p (word-of-process (pack s) p)
+
+-- `kept-words`: the words that mean something and that `view` doesn't read. A core keeps its active queue's last process and size and
+-- the last batch's head; a batch's head keeps the batch's last process and size.
+pub record KeptWords : Type 0 where
+  pub cores : (s : State) (k : ℕ) → k < length (s .cores) → let c = core-of s k in let w = word-of-core (pack s) k in
+      (w core-last ≡ last (c .active)) × (w core-size ≡ length (c .active)) × (w core-last-head ≡ last (heads (c .run-queue)))
+  pub batches : (s : State) (k i : ℕ) → T (valid s) → k < length (s .cores) → i < length (core-of s k .run-queue)
+      → let batch = getD (core-of s k .run-queue) i [] in let w = word-of-process (pack s) (first batch) in
+      (w process-last ≡ last batch) × (w process-size ≡ length batch)
 
 -- Demand 1
 

@@ -211,7 +211,7 @@ unused-of-process s p there =
           let e : 6 + (f - 6) ≡ f = omega arith in
           rw (← e) (progress-word s p low high (f - 6) (omega arith) ∙ progress-unused (process-of s p .progress) (f - 6) (omega arith) (rw e h));
       next = λ e. link 0 (lit< tt) ∙ next-unused s p e;
-      batch = λ e. (link 1 (lit< tt) ∙ head-unused s p last e, link 2 (lit< tt) ∙ head-unused s p length e, link 3 (lit< tt) ∙ next-head-unused s p e);
+      batch = λ e. (link 1 (lit< tt) ∙ head-unused s p _ e, link 2 (lit< tt) ∙ head-unused s p _ e, link 3 (lit< tt) ∙ next-head-unused s p e);
     }
 
 -- Words that mean nothing are 0.
