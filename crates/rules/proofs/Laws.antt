@@ -6,4 +6,5 @@ pub mod SameResult
 pub mod ListedNumber
 pub mod RefusalWritesNothing
 pub mod StaysSound
+pub mod OnlyCopyCounts
 pub mod EitherOrder

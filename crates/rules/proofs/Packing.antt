@@ -9,3 +9,5 @@ pub mod ViewCore
 pub mod ViewProcess
 pub mod ViewChannel
 pub mod Means
+pub mod Unused
+pub mod Kept

@@ -1,6 +1,6 @@
 -- Queues as lists: what follows a number, and what a batch's head keeps.
-use Prim.Native.Nat.{ℕ, _+_, _≤_}
-use mathlib.Core.Path.{_≡_, refl, sym, ap}
+use Prim.Native.Nat.{ℕ, _≤_}
+use mathlib.Core.Path.{_≡_, refl, sym, ap, _∙_}
 use mathlib.Core.List.{List, [], _∷_, _++_}
 use native.Mathlib.Omega.{arith}
 use lib.Dec.{eqb}
@@ -8,7 +8,7 @@ use borrow.Author.Tests.{eq-eqb, ne-eqb}
 use Rattle.rules.specs.Lists.{if_then_else_, total, bit, times, first, last, follows}
 use Rattle.rules.specs.Packing.{heads, if-head}
 use Rattle.rules.proofs.Tests.{by-test}
-use Rattle.rules.proofs.Sums.{total-zero, head-stands}
+use Rattle.rules.proofs.Sums.{total-zero, total-map, head-stands}
 
 -- the last of a list stands there
 pub times-last : (l : List ℕ) → 1 ≤ last l → 1 ≤ times (last l) l
@@ -74,6 +74,15 @@ if-head-other f p x l ne = rw (ne-eqb x p (λ e. ne (sym e)))
 pub if-head-none : (f : List ℕ → ℕ) (p : ℕ) (l : List ℕ) → 1 ≤ p → times p l ≡ 0 → if-head f p l ≡ 0
 if-head-none f p [] low h = rw (ne-eqb 0 p (λ e. omega arith))
 if-head-none f p (x ∷ l) low h = by-test (eqb x p) (λ e. absurd (omega (arith, ap bit e))) (λ e. refl)
+
+-- nor of one that it doesn't head
+pub if-not-head : (f : List ℕ → ℕ) (p : ℕ) (l : List ℕ) → bit (eqb (first l) p) ≡ 0 → if-head f p l ≡ 0
+if-not-head f p l h = by-test (eqb (first l) p) (λ e. absurd (omega (arith, ap bit e))) (λ e. refl)
+
+-- and so of none where it heads none
+pub heads-none : (f : List ℕ → ℕ) (p : ℕ) (batches : List (List ℕ)) → times p (heads batches) ≡ 0 → total (if-head f p) batches ≡ 0
+heads-none f p batches h =
+    total-zero (λ l. bit (eqb (first l) p)) (if-head f p) (if-not-head f p) batches (sym (total-map (λ x. bit (eqb x p)) first batches) ∙ h)
 
 -- a process is no more often a head than it stands in batches
 pub times-heads : (p : ℕ) (batches : List (List ℕ)) → 1 ≤ p → times p (heads batches) ≤ total (times p) batches

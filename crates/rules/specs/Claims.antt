@@ -1,16 +1,37 @@
 -- What is claimed of the rules, as types, a sentence each. The proofs stand elsewhere, each under the name given here.
-use Prim.Native.Nat.{ℕ, _≤_}
+use Prim.Native.Nat.{ℕ, _+_, _%_, _≤_, _<_}
 use mathlib.Core.Path.{_≡_}
 use mathlib.Core.Bool.{Bool, true}
 use mathlib.Core.List.{List, [], _∷_, List·Memᴰ}
 use mathlib.Core.Logic.{_↔_}
 use lib.Dec.{T}
-use Rattle.rules.specs.Lists.{member}
-use Rattle.rules.specs.State.{State}
-use Rattle.rules.specs.Items.{Item}
+use lib.ListN.{length, getD}
+use Rattle.rules.specs.Lists.{within, total, member, times, first, last}
+use Rattle.rules.specs.State.{Way, copy, doing, no-task, runs, free, Core, State, wiring}
+use Rattle.rules.specs.Items.{progress, transfers, Item, core-of, get}
 use Rattle.rules.specs.Requests.{send, receive, choose, yield, end}
-use Rattle.rules.specs.Packing.{pack, view}
-use Rattle.rules.specs.Soundness.{word32, valid, sound}
+use Rattle.rules.specs.SetUp.{room}
+use Rattle.rules.specs.Packing.{
+  heads,
+  pack,
+  word-at,
+  word-of-core,
+  word-of-process,
+  core-task,
+  core-task-process,
+  core-first,
+  core-last,
+  core-size,
+  core-first-head,
+  core-last-head,
+  process-next,
+  process-last,
+  process-size,
+  process-next-head,
+  view,
+}
+use Rattle.rules.specs.UsedWords.{used-words}
+use Rattle.rules.specs.Soundness.{word32, is-process, in-queues, valid, sound}
 use Rattle.rules.specs.Calls.{Result, Ask, the-step, a-request, call, Built, set-up-call}
 use Rattle.rules.specs.Touched.{touched}
 
@@ -27,6 +48,43 @@ OnePacking = (s s′ : State) → T (valid s) → T (valid s′) → pack s ≡ 
 -- `sound-means`: "A table is sound exactly when it is the packing of a state in which .."
 abbrev pub SoundMeans : Type 0
 SoundMeans = (t : List ℕ) → T (sound t) ↔ ((s : State) × T (valid s) × (t ≡ pack s))
+
+-- `packing-length`: "The table has exactly T = 8 + 16K + 24N + 4M words."
+abbrev pub PackingLength : Type 0
+PackingLength = (s : State) → length (pack s) ≡ room (length (s .cores)) (length (s .processes)) (length (s .channels))
+
+-- what is 0 among the words w of a core c: the last six, a task's words where there is no task, a queue's where it is empty
+pub record UnusedOfCore (c : Core) (w : ℕ → ℕ) : Type 0 where
+  pub spare : (f : ℕ) → T (within 10 15 f) → w f ≡ 0
+  pub task : (p : ℕ) → c .work ≡ runs p → (w core-task ≡ 0) × (w core-task-process ≡ 0)
+  pub task-process : c .work ≡ free no-task → w core-task-process ≡ 0
+  pub active : c .active ≡ [] → (w core-first ≡ 0) × (w core-last ≡ 0) × (w core-size ≡ 0)
+  pub run-queue : c .run-queue ≡ [] → (w core-first-head ≡ 0) × (w core-last-head ≡ 0)
+
+-- how many batches of the run queues process p heads
+abbrev pub batches-headed : State → ℕ → ℕ
+batches-headed s p = total (λ (c : Core). times p (heads (c .run-queue))) (s .cores)
+
+-- and of process p: what its progress has no use for, next where it stands in no queue, a batch's words where it heads none
+pub record UnusedOfProcess (s : State) (p : ℕ) (w : ℕ → ℕ) : Type 0 where
+  pub in-hand : (f : ℕ) → T (within 7 19 f) → (T (member f (used-words (get progress s p))) → ⊥) → w f ≡ 0
+  pub next : in-queues s p ≡ 0 → w process-next ≡ 0
+  pub batch : batches-headed s p ≡ 0 → (w process-last ≡ 0) × (w process-size ≡ 0) × (w process-next-head ≡ 0)
+
+-- `unused-words-zero`: "Each state has exactly one packing, unused words 0."
+pub record UnusedWordsZero : Type 0 where
+  pub header : (s : State) (f : ℕ) → T (within 3 7 f) → word-at (pack s) f ≡ 0
+  pub cores : (s : State) (k : ℕ) → k < length (s .cores) → UnusedOfCore (core-of s k) (word-of-core (pack s) k)
+  pub processes : (s : State) (p : ℕ) → T (is-process (wiring s) p) → UnusedOfProcess s p (word-of-process (pack s) p)
+
+-- `kept-words`: the words that mean something and that `view` doesn't read. A core keeps its active queue's last process and size and
+-- the last batch's head; a batch's head keeps the batch's last process and size.
+pub record KeptWords : Type 0 where
+  pub cores : (s : State) (k : ℕ) → k < length (s .cores) → let c = core-of s k in let w = word-of-core (pack s) k in
+      (w core-last ≡ last (c .active)) × (w core-size ≡ length (c .active)) × (w core-last-head ≡ last (heads (c .run-queue)))
+  pub batches : (s : State) (k i : ℕ) → T (valid s) → k < length (s .cores) → i < length (core-of s k .run-queue)
+      → let batch = getD (core-of s k .run-queue) i [] in let w = word-of-process (pack s) (first batch) in
+      (w process-last ≡ last batch) × (w process-size ≡ length batch)
 
 -- Demand 1
 
@@ -59,6 +117,25 @@ sends-word (a-request end) = true
 pub record StaysSound : Type 0 where
   pub calls : (t answer : List ℕ) (k : ℕ) (ask : Ask) → T (sends-word ask) → T (sound t) → T (sound (call t answer k ask .table))
   pub set-up : (k n m : ℕ) (pairs t : List ℕ) → set-up-call k n m pairs t .number ≡ 0 → T (sound (set-up-call k n m pairs t .table))
+
+-- Transfers
+
+-- a call that is a step of core k, whose running process stands at copy on channel c
+pub record Copying (s : State) (k : ℕ) (ask : Ask) (c : ℕ) : Type 0 where
+  pub process : ℕ
+  pub partner : ℕ
+  pub way : Way
+  pub steps : ask ≡ the-step
+  pub running : core-of s k .work ≡ runs process
+  pub at-copy : get progress s process ≡ doing (copy way c partner)
+
+-- `only-copy-counts`: "only copy counts": no other call changes a channel's transfers. At copy "transfers go up by one", and the number
+-- "goes round from 4294967295 to 0". (On a sound table a step at copy is refused for nothing but the answer slice.)
+pub record OnlyCopyCounts : Type 0 where
+  pub unless-copying : (t answer : List ℕ) (k : ℕ) (ask : Ask) (c : ℕ) → T (sends-word ask) → T (sound t) → (Copying (view t) k ask c → ⊥)
+      → get transfers (view (call t answer k ask .table)) c ≡ get transfers (view t) c
+  pub copying : (t answer : List ℕ) (k : ℕ) (ask : Ask) (c : ℕ) → T (sound t) → length answer ≡ 3 → Copying (view t) k ask c
+      → get transfers (view (call t answer k ask .table)) c ≡ (get transfers (view t) c + 1) % 4294967296
 
 -- Strength of the promises
 

@@ -9,6 +9,7 @@ pub mod Scheduler
 pub mod Requests
 pub mod SetUp
 pub mod Packing
+pub mod UsedWords
 pub mod Soundness
 pub mod Calls
 pub mod Touched

@@ -196,7 +196,7 @@ chain link zero p = []
 chain link (suc n) zero = []
 chain link (suc n) (suc p) = suc p ∷ chain link n (link (suc p))
 
--- The words of a core, a process and a channel that a state is read out of, by name (docs/PACKING.md has them all).
+-- The words of a core, a process and a channel by name (docs/PACKING.md).
 abbrev pub core-runs : ℕ
 core-runs = 0
 
@@ -209,6 +209,12 @@ core-task-process = 2
 abbrev pub core-first : ℕ
 core-first = 3
 
+abbrev pub core-last : ℕ
+core-last = 4
+
+abbrev pub core-size : ℕ
+core-size = 5
+
 abbrev pub core-dispatch : ℕ
 core-dispatch = 6
 
@@ -217,6 +223,9 @@ core-mark = 7
 
 abbrev pub core-first-head : ℕ
 core-first-head = 8
+
+abbrev pub core-last-head : ℕ
+core-last-head = 9
 
 abbrev pub process-place : ℕ
 process-place = 0
@@ -259,6 +268,12 @@ process-first-guard = 12
 
 abbrev pub process-next : ℕ
 process-next = 20
+
+abbrev pub process-last : ℕ
+process-last = 21
+
+abbrev pub process-size : ℕ
+process-size = 22
 
 abbrev pub process-next-head : ℕ
 process-next-head = 23

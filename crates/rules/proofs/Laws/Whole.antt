@@ -80,7 +80,7 @@ sound-packs t sounds =
     rw (packs-view h) h
 
 -- a test that holds is true
-holds : (b : Bool) → T b → b ≡ true
+pub holds : (b : Bool) → T b → b ≡ true
 holds true h = refl
 holds false h = absurd h
 

@@ -286,7 +286,7 @@ module _ (P : Kind → ℕ → Type 0) where
   own-core k (free t) own = own .0
 
   -- a call keeps to P if P has its core's record, its running process and what is listed for what it asks
-  rule-within : (s : State) (k : ℕ) (ask : Ask) → All P (record-and-running k (core-of s k .work)) → All P (ask-items s k (core-of s k) ask)
+  pub rule-within : (s : State) (k : ℕ) (ask : Ask) → All P (record-and-running k (core-of s k .work)) → All P (ask-items s k (core-of s k) ask)
       → Within P (rule-of (wiring s) ask k) s
   rule-within s k the-step own h = let c = core-of s k in (own-core k (c .work) own, work-within k c (c .work) s own h)
   rule-within s k (a-request r) own h =

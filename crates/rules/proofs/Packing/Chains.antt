@@ -7,16 +7,16 @@ use mathlib.Core.List.{List, [], _∷_}
 use native.Mathlib.Omega.{arith}
 use lib.Dec.{T, eqb, leb, eqb→eq}
 use lib.ListN.{length, getD}
-use borrow.Author.Tests.{leb-true, leb-false, ne-eqb}
+use borrow.Author.Tests.{leb-true, leb-false, eq-eqb, ne-eqb}
 use Rattle.rules.specs.Lists.{if_then_else_, total, times, bit, first, follows}
 use Rattle.rules.specs.State.{Place, running, queued, asleep, ended, Core, queues-of, State}
 use Rattle.rules.specs.Items.{core-of, process-of, no-core}
-use Rattle.rules.specs.Packing.{heads, next-link, batch-link, chain}
+use Rattle.rules.specs.Packing.{heads, next-link, if-head, head-link, batch-link, chain}
 use Rattle.rules.specs.Soundness.{in-queues, stands, not-empty}
 use Rattle.rules.proofs.Tests.{both}
 use Rattle.rules.proofs.Packing.Reflect.{Valid}
-use Rattle.rules.proofs.QueueLists.{follows-none, follows-first}
-use Rattle.rules.proofs.Sums.{total-le, term-le-total, positive-term, total-zero, total-only, total-map, Among, among-length, head-stands}
+use Rattle.rules.proofs.QueueLists.{follows-none, follows-first, if-not-head, heads-none}
+use Rattle.rules.proofs.Sums.{total-le, term-le-total, positive-term, total-zero, total-only, total-map, counts-once, Among, among-length, head-stands}
 
 -- One list
 
@@ -135,12 +135,42 @@ module _ (s : State) (v : Valid s) where
           once = λ p. omega (arith, heads-in-core p, in-core p, queued-once p);
         }
 
+  -- a batch's head is a process
+  pub head-range : (k : ℕ) (b : k < length (s .cores)) (i : ℕ) → i < length (core-of s k .run-queue)
+      → let p = first (getD (core-of s k .run-queue) i []) in (1 ≤ p) × (p ≤ length (s .processes))
+  head-range k b i c =
+      let l = core-of s k .run-queue in
+      let p = first (getD l i []) in
+      v .cores k b .members (suc i) (omega arith) p
+      (omega (arith, counts-once p, head-in-batch p (getD l i []) (v .cores k b .batches i c)))
+
+  -- no process heads two batches
+  pub heads-once : (p : ℕ) → total (λ (c : Core). times p (heads (c .run-queue))) (s .cores) ≤ 1
+  unfolding in-queues
+  heads-once p =
+      let le = total-le (λ (c : Core). times p (heads (c .run-queue))) (λ c. total (times p) (queues-of c)) no-core (s .cores) (λ j c. heads-in-core j c p) in
+      omega (arith, queued-once p)
+
   -- a head is linked to the head of the batch that follows
   pub batch-follows : (k : ℕ) → k < length (s .cores) → (p : ℕ) → 1 ≤ times p (heads (core-of s k .run-queue))
       → batch-link s p ≡ follows p (heads (core-of s k .run-queue))
-  unfolding batch-link in-queues
+  unfolding batch-link
   batch-follows k b p h =
       let heads-of : Core → List ℕ = λ c. heads (c .run-queue) in
-      let le = total-le (λ c. times p (heads-of c)) (λ c. total (times p) (queues-of c)) no-core (s .cores) (λ j c. heads-in-core j c p) in
-      total-only (λ c. times p (heads-of c)) (λ c. follows p (heads-of c)) (λ c. follows-none p (heads-of c)) (s .cores)
-      (omega (arith, queued-once p)) no-core k b h
+      total-only (λ c. times p (heads-of c)) (λ c. follows p (heads-of c)) (λ c. follows-none p (heads-of c)) (s .cores) (heads-once p) no-core k b h
+
+  -- and keeps the numbers of its batch
+  pub head-keeps : (f : List ℕ → ℕ) (k : ℕ) → k < length (s .cores) → (i : ℕ) → i < length (core-of s k .run-queue)
+      → let batch = getD (core-of s k .run-queue) i [] in head-link f s (first batch) ≡ f batch
+  unfolding head-link
+  head-keeps f k b i c =
+      let l = core-of s k .run-queue in
+      let p = first (getD l i []) in
+      let heads-it : List ℕ → ℕ = λ batch. bit (eqb (first batch) p) in
+      let here : 1 ≤ heads-it (getD l i []) = omega (arith, counts-once p) in
+      let same : times p (heads l) ≡ total heads-it l = total-map (λ x. bit (eqb x p)) first l in
+      let once : times p (heads l) ≤ 1 = omega (arith, term-le-total (λ (c : Core). times p (heads (c .run-queue))) (s .cores) no-core k b, heads-once p) in
+      total-only (λ (c : Core). times p (heads (c .run-queue))) (λ c. total (if-head f p) (c .run-queue)) (λ c. heads-none f p (c .run-queue)) (s .cores)
+      (heads-once p) no-core k b (omega (arith, term-le-total heads-it l [] i c))
+      ∙ total-only heads-it (if-head f p) (if-not-head f p) l (omega arith) [] i c here
+      ∙ rw (eq-eqb p p refl)

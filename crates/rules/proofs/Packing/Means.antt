@@ -1,4 +1,4 @@
--- What the packing means: the three claims on packing, put together.
+-- What the packing means: the claims on the whole of it, put together.
 use mathlib.Core.Path.{_≡_, sym, ap, _∙_}
 use native.Mathlib.Nat.{zero-add}
 use lib.Dec.{T}
@@ -7,9 +7,10 @@ use Rattle.rules.specs.State.{State}
 use Rattle.rules.specs.Items.{no-core, no-process, no-channel}
 use Rattle.rules.specs.Packing.{pack, view-core, view-process, view-channel, view}
 use Rattle.rules.specs.Soundness.{valid, sound}
-use Rattle.rules.specs.Claims.{ViewOfPack, OnePacking, SoundMeans}
+use Rattle.rules.specs.Claims.{ViewOfPack, OnePacking, SoundMeans, PackingLength}
 use Rattle.rules.proofs.Tabulate.{tabulate-back, tabulate-nth}
 use Rattle.rules.proofs.Tests.{both, together, same-words-means, same-words-refl}
+use Rattle.rules.proofs.Packing.Blocks.{pack-holds}
 use Rattle.rules.proofs.Packing.Reflect.{valid-means}
 use Rattle.rules.proofs.Packing.Reading.{header-of-pack}
 use Rattle.rules.proofs.Packing.ViewCore.{view-core-back}
@@ -47,3 +48,7 @@ sound-means t = (from-sound, to-sound)
         let packed : t ≡ pack (m .0) = m .2 in
         let same : view t ≡ m .0 = ap view packed ∙ view-of-pack (m .0) (m .1) in
         together (valid (view t)) (same-words (pack (view t)) t) (rw same (m .1)) (rw (same, ← packed) (same-words-refl t))
+
+-- The packing of a state has exactly T words.
+pub packing-length : PackingLength
+packing-length s = pack-holds s .size

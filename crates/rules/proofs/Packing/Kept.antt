@@ -1,0 +1,19 @@
+-- What is kept of a queue: its last process and its size, and of a run queue its last head.
+use mathlib.Core.Path.{_∙_}
+use lib.Dec.{lit<}
+use lib.ListN.{length}
+use Rattle.rules.specs.Lists.{last}
+use Rattle.rules.specs.Claims.{KeptWords}
+use Rattle.rules.proofs.Packing.Reflect.{valid-means}
+use Rattle.rules.proofs.Packing.Chains.{head-range, head-keeps}
+use Rattle.rules.proofs.Packing.ReadLaws.{read-core}
+use Rattle.rules.proofs.Packing.Reading.{link-word}
+
+pub kept-words : KeptWords
+kept-words = record {
+  cores = λ s k b. let at = read-core s k in (at 4 b (lit< tt), at 5 b (lit< tt), at 9 b (lit< tt));
+  batches = λ s k i good b c.
+      let v = valid-means s good in
+      let (low, high) = head-range s v k b i c in
+      (link-word s _ low high 1 (lit< tt) ∙ head-keeps s v last k b i c, link-word s _ low high 2 (lit< tt) ∙ head-keeps s v length k b i c);
+}

@@ -1,0 +1,223 @@
+-- The words of a packing that mean nothing are 0.
+use Prim.Native.Nat.{ℕ, zero, suc, _+_, _-_, _≤_, _<_}
+use mathlib.Core.Path.{_≡_, refl, ap, _∙_}
+use mathlib.Core.List.{List, [], _∷_, _++_}
+use mathlib.Core.Option.{Option, none}
+use native.Mathlib.Omega.{arith}
+use lib.Dec.{T, eqb, lit<}
+use lib.ListN.{length, getD, take}
+use Rattle.rules.specs.Lists.{total, from, member, first, last, follows}
+use Rattle.rules.specs.State.{
+  sending,
+  receiving,
+  look,
+  park,
+  copy,
+  clear,
+  wake,
+  enable-look,
+  raise,
+  place-name,
+  ready-from-look,
+  ready-from-place,
+  wait,
+  disable,
+  lower,
+  finish,
+  go,
+  sent,
+  got,
+  chose,
+  Progress,
+  nothing,
+  doing,
+  due,
+  Core,
+  queues-of,
+  State,
+  wiring,
+}
+use Rattle.rules.specs.Items.{core-of, process-of}
+use Rattle.rules.specs.Packing.{
+  work-words,
+  heads,
+  padded,
+  ready-number,
+  of-channel,
+  of-choice,
+  progress-words,
+  next-link,
+  if-head,
+  head-link,
+  batch-link,
+  pack,
+  word-of-core,
+  word-of-process,
+  process-channel,
+  process-partner,
+  process-index,
+  process-first-ready,
+}
+use Rattle.rules.specs.UsedWords.{guards-used, used-words}
+use Rattle.rules.specs.Soundness.{is-process, in-queues}
+use Rattle.rules.specs.Claims.{UnusedOfCore, batches-headed, UnusedOfProcess, UnusedWordsZero}
+use Rattle.rules.proofs.Tests.{or-left, or-right, eqb-means, within-means}
+use Rattle.rules.proofs.Sums.{total-zero}
+use Rattle.rules.proofs.QueueLists.{follows-none, no-next, heads-none}
+use Rattle.rules.proofs.Packing.ReadLaws.{core-list, header-list, read-header, read-core}
+use Rattle.rules.proofs.Packing.Reading.{progress-word, link-word}
+
+-- zeros are read where nothing but zeros stands
+zeros : (n i : ℕ) → getD (padded n []) i 0 ≡ 0
+zeros zero i = refl
+zeros (suc n) zero = refl
+zeros (suc n) (suc i) = zeros n i
+
+-- and behind a list that only zeros follow
+behind : (l : List ℕ) (n i : ℕ) → length l ≤ i → getD (l ++ padded n []) i 0 ≡ 0
+behind [] n i b = zeros n i
+behind (x ∷ l) n zero b = absurd (omega arith)
+behind (x ∷ l) n (suc i) b = behind l n i (omega arith)
+
+-- A core: the words that mean nothing where nothing runs or waits, and the last six
+
+unused-of-core : (s : State) (k : ℕ) → k < length (s .cores) → UnusedOfCore (core-of s k) (word-of-core (pack s) k)
+unused-of-core s k b =
+    let c = core-of s k in
+    let at : (f : ℕ) → f < 16 → word-of-core (pack s) k f ≡ getD (core-list c) f 0 = λ f. read-core s k f b in
+    record {
+      spare = λ f h. let r = within-means 10 15 f h in at f (omega arith) ∙ behind (take 10 (core-list c)) 6 f (omega arith);
+      task = λ p e. (at 1 (lit< tt) ∙ ap (λ w. getD (work-words w) 1 0) e, at 2 (lit< tt) ∙ ap (λ w. getD (work-words w) 2 0) e);
+      task-process = λ e. at 2 (lit< tt) ∙ ap (λ w. getD (work-words w) 2 0) e;
+      active = λ e. (at 3 (lit< tt) ∙ ap first e, at 4 (lit< tt) ∙ ap last e, at 5 (lit< tt) ∙ ap length e);
+      run-queue = λ e. (at 8 (lit< tt) ∙ ap (λ l. first (heads l)) e, at 9 (lit< tt) ∙ ap (λ l. last (heads l)) e);
+    }
+
+-- A progress: its words have one of two shapes
+
+-- a word with the value v is 0, if it isn't used
+abbrev ZeroUnless : List ℕ → ℕ → ℕ → Type 0
+ZeroUnless used f v = (T (member f used) → ⊥) → v ≡ 0
+
+-- each word behind the progress's number is
+abbrev Unused : List ℕ → List ℕ → Type 0
+Unused used l = (i : ℕ) → 1 ≤ i → ZeroUnless used (6 + i) (getD l i 0)
+
+-- with a channel and a partner
+channel-unused : (used : List ℕ) (number c q : ℕ) → ZeroUnless used process-channel c → ZeroUnless used process-partner q
+    → Unused used (of-channel number c q)
+channel-unused used number c q channel partner zero l h = absurd (omega arith)
+channel-unused used number c q channel partner (suc zero) l h = channel h
+channel-unused used number c q channel partner (suc (suc zero)) l h = partner h
+channel-unused used number c q channel partner (suc (suc (suc i))) l h = zeros 11 i
+
+-- a guard's word, of those from a on, behind as many as there are guards
+guard-unused : (a n : ℕ) (gs : List ℕ) (i : ℕ) → ZeroUnless (from a (length gs)) (a + i) (getD (padded n gs) i 0)
+guard-unused a zero gs i h = refl
+guard-unused a (suc n) [] i h = zeros (suc n) i
+guard-unused a (suc n) (g ∷ gs) zero h = absurd (h (or-left (eqb a (a + 0)) _ (eqb-means a (a + 0) .1 (omega arith))))
+guard-unused a (suc n) (g ∷ gs) (suc i) h =
+    let e : suc a + i ≡ a + suc i = omega arith in guard-unused (suc a) n gs i (λ m. h (or-right (eqb a (a + suc i)) _ (rw e at m)))
+
+-- what stands in a list stands there behind others
+member-behind : (n : ℕ) (more l : List ℕ) → T (member n l) → T (member n (more ++ l))
+member-behind n [] l m = m
+member-behind n (x ∷ more) l m = or-right (eqb x n) _ (member-behind n more l m)
+
+-- with guards, a guard index and a first ready guard
+choice-unused : (more : List ℕ) (number : ℕ) (gs : List ℕ) (i : ℕ) (r : Option ℕ) → let used = more ++ guards-used gs in
+    ZeroUnless used process-index i → ZeroUnless used process-first-ready (ready-number r) → Unused used (of-choice number gs i r)
+choice-unused more number gs i r index ready zero l h = absurd (omega arith)
+choice-unused more number gs i r index ready (suc zero) l h = refl
+choice-unused more number gs i r index ready (suc (suc zero)) l h = refl
+choice-unused more number gs i r index ready (suc (suc (suc zero))) l h = absurd (h (member-behind 9 more (guards-used gs) tt))
+choice-unused more number gs i r index ready (suc (suc (suc (suc zero)))) l h = index h
+choice-unused more number gs i r index ready (suc (suc (suc (suc (suc zero))))) l h = ready h
+choice-unused more number gs i r index ready (suc (suc (suc (suc (suc (suc j)))))) l h =
+    let f : ℕ = 6 + suc (suc (suc (suc (suc (suc j))))) in
+    let e : 12 + j ≡ f = omega arith in
+    guard-unused 12 8 gs j (λ m. h (member-behind f more (guards-used gs) (or-right (eqb 9 f) _ (rw e at m))))
+
+-- the shapes that occur: nothing, a channel, a channel and a partner; guards with an index, or with a first ready guard besides
+no-request : (number : ℕ) → Unused [] (of-channel number 0 0)
+no-request number = channel-unused [] number 0 0 (λ h. refl) (λ h. refl)
+
+on-channel : (number c : ℕ) → Unused (process-channel ∷ []) (of-channel number c 0)
+on-channel number c = channel-unused (process-channel ∷ []) number c 0 (λ h. absurd (h tt)) (λ h. refl)
+
+with-partner : (number c q : ℕ) → Unused (process-channel ∷ process-partner ∷ []) (of-channel number c q)
+with-partner number c q = channel-unused (process-channel ∷ process-partner ∷ []) number c q (λ h. absurd (h tt)) (λ h. absurd (h tt))
+
+at-guard : (number : ℕ) (gs : List ℕ) (i : ℕ) → Unused (process-index ∷ guards-used gs) (of-choice number gs i none)
+at-guard number gs i = choice-unused (process-index ∷ []) number gs i none (λ h. absurd (h tt)) (λ h. refl)
+
+with-ready : (number : ℕ) (gs : List ℕ) (i : ℕ) (r : Option ℕ)
+    → Unused (process-index ∷ process-first-ready ∷ guards-used gs) (of-choice number gs i r)
+with-ready number gs i r =
+    choice-unused (process-index ∷ process-first-ready ∷ []) number gs i r (λ h. absurd (h tt)) (λ h. absurd (h tt))
+
+progress-unused : (x : Progress) → Unused (used-words x) (progress-words x)
+unfolding progress-words
+progress-unused nothing = no-request 0
+progress-unused (doing (look sending c)) = on-channel 1 c
+progress-unused (doing (park sending c)) = on-channel 2 c
+progress-unused (doing (copy sending c q)) = with-partner 3 c q
+progress-unused (doing (clear sending c q)) = with-partner 4 c q
+progress-unused (doing (wake sending c q)) = with-partner 5 c q
+progress-unused (doing (look receiving c)) = on-channel 6 c
+progress-unused (doing (park receiving c)) = on-channel 7 c
+progress-unused (doing (copy receiving c q)) = with-partner 8 c q
+progress-unused (doing (clear receiving c q)) = with-partner 9 c q
+progress-unused (doing (wake receiving c q)) = with-partner 10 c q
+progress-unused (doing (enable-look gs i)) = at-guard 11 gs i
+progress-unused (doing (raise gs i)) = at-guard 12 gs i
+progress-unused (doing (place-name gs i)) = at-guard 13 gs i
+progress-unused (doing (ready-from-look gs i)) = at-guard 14 gs i
+progress-unused (doing (ready-from-place gs i)) = at-guard 15 gs i
+progress-unused (doing (wait gs)) = choice-unused [] 16 gs 0 none (λ h. refl) (λ h. refl)
+progress-unused (doing (disable gs i r)) = with-ready 17 gs i r
+progress-unused (doing (lower gs i r)) = with-ready 18 gs i r
+progress-unused (doing (finish gs r)) = choice-unused (process-first-ready ∷ []) 19 gs 0 r (λ h. refl) (λ h. absurd (h tt))
+progress-unused (due go) = no-request 20
+progress-unused (due (sent c)) = on-channel 21 c
+progress-unused (due (got c)) = on-channel 22 c
+progress-unused (due (chose c)) = on-channel 23 c
+
+-- A process
+
+module _ (s : State) (p : ℕ) where
+  -- one that stands in no queue has no next
+  next-unused : in-queues s p ≡ 0 → next-link s p ≡ 0
+  unfolding next-link in-queues
+  next-unused = total-zero _ (λ (c : Core). total (follows p) (queues-of c)) (λ c. no-next p (queues-of c)) (s .cores)
+
+  -- one that heads no batch keeps no number of one
+  head-unused : (f : List ℕ → ℕ) → batches-headed s p ≡ 0 → head-link f s p ≡ 0
+  unfolding head-link
+  head-unused f = total-zero _ (λ (c : Core). total (if-head f p) (c .run-queue)) (λ c. heads-none f p (c .run-queue)) (s .cores)
+
+  -- and no next head
+  next-head-unused : batches-headed s p ≡ 0 → batch-link s p ≡ 0
+  unfolding batch-link
+  next-head-unused = total-zero _ (λ (c : Core). follows p (heads (c .run-queue))) (λ c. follows-none p (heads (c .run-queue))) (s .cores)
+
+unused-of-process : (s : State) (p : ℕ) → T (is-process (wiring s) p) → UnusedOfProcess s p (word-of-process (pack s) p)
+unused-of-process s p there =
+    let (low, high) = within-means 1 (length (s .processes)) p there in
+    let link = link-word s p low high in
+    record {
+      in-hand = λ f b h.
+          let r = within-means 7 19 f b in
+          let e : 6 + (f - 6) ≡ f = omega arith in
+          rw (← e) (progress-word s p low high (f - 6) (omega arith) ∙ progress-unused (process-of s p .progress) (f - 6) (omega arith) (rw e h));
+      next = λ e. link 0 (lit< tt) ∙ next-unused s p e;
+      batch = λ e. (link 1 (lit< tt) ∙ head-unused s p _ e, link 2 (lit< tt) ∙ head-unused s p _ e, link 3 (lit< tt) ∙ next-head-unused s p e);
+    }
+
+-- Words that mean nothing are 0.
+pub unused-words-zero : UnusedWordsZero
+unused-words-zero = record {
+  header = λ s f b. let r = within-means 3 7 f b in read-header s f (omega arith) ∙ behind (take 3 (header-list s)) 5 f (omega arith);
+  cores = unused-of-core;
+  processes = unused-of-process;
+}
