@@ -1,5 +1,6 @@
 -- The soundness check as a pure function of the table that goes the way of the code: header, then core by core its queues, process by
--- process along each chain, then the processes, then the channels. Each part stops at the first flaw.
+-- process along each chain, then the processes, then the channels. The first record with a flaw ends it. Tests that the code makes
+-- together within a record, before it leaves, are joined by `&&` here as the others are.
 use Prim.Native.Nat.{ℕ, zero, suc, _+_, _-_, _/_}
 use mathlib.Core.Bool.{Bool, true, false, _&&_, _||_}
 use mathlib.Core.List.{List}

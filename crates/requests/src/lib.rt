@@ -235,7 +235,7 @@ pub fn yield_core(t: &mut [u32], cores: usize, processes: usize, k: usize) -> Re
         return answers::refused(answers::BUSY);
     }
     table::set_process_word(t, cores, p, 6, 20);
-    queues::join(t, cores, processes, k, p);
+    queues::join(t, cores, k, p);
     parts::has_task(t, k, 0, 0);
     answers::taken(p, 0)
 }

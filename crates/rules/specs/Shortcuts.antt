@@ -4,8 +4,21 @@ use mathlib.Core.Path.{_≡_}
 use mathlib.Core.List.{List, [], _∷_, _++_}
 use lib.ListN.{replicate}
 use Rattle.rules.specs.Numbers.{TAKEN, MOVED, GO, CHOSE}
+use Rattle.rules.specs.State.{asleep}
+use Rattle.rules.specs.Items.{process-of}
+use Rattle.rules.specs.Packing.{view}
 use Rattle.rules.specs.Calls.{set-up-call}
-use Rattle.rules.specs.BenchSheet.{Turn, steps, sends, chooses, answers, after, said}
+use Rattle.rules.specs.BenchSheet.{Turn, steps, sends, receives, chooses, answers, after, said, pair}
+
+-- the table in which the reader has parked, and the writer has looked and copied
+abbrev pub copied : List ℕ
+copied =
+    after (pair 2)
+    (steps 1 ∷ steps 1 ∷ receives 1 1 ∷ steps 1 ∷ steps 1 ∷ steps 0 ∷ steps 0 ∷ sends 0 1 77 ∷ steps 0 ∷ steps 0 ∷ [])
+
+-- "Waking before the copy: the partner may run on before its data is there": after the copy it has its data, and is still asleep.
+abbrev pub StillAsleep : Type 0
+StillAsleep = (process-of (view copied) 2 .data-word ≡ 77) × (process-of (view copied) 2 .place ≡ asleep)
 
 -- K=3, N=3, M=2: processes 1 and 2 write, process 3 reads both channels
 abbrev pub triple : List ℕ

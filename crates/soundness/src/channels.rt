@@ -18,7 +18,7 @@ fn channel_fits(t: &[u32], cores: usize, processes: usize, c: usize) -> bool
     read::within(1, processes, writer)
         & read::within(1, processes, reader)
         & (writer != reader)
-        & ((word == 0) | read::within(1, processes, word / 2))
+        & ((word == 0) | read::within(1, processes, word >> 1))
 }
 
 pub fn channels_fit(t: &[u32], cores: usize, processes: usize, channels: usize) -> bool

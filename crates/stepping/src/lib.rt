@@ -94,7 +94,7 @@ fn wake_task(t: &mut [u32], cores: usize, processes: usize, k: usize, q: u32) ->
     if place != 3 {
         return answers::refused(answers::FAULT);
     }
-    queues::join(t, cores, processes, k, q);
+    queues::join(t, cores, k, q);
     parts::has_task(t, k, 0, 0);
     answers::moved()
 }

@@ -96,15 +96,6 @@ fn sleeps(t: &mut [u32], cores: usize, k: usize, p: u32, way: Way, task: u32, q:
     parts::falls_asleep(t, cores, k, p, task, q)
 }
 
-// The look was stale: process q is the partner after all, next copy.
-fn finds_late(t: &mut [u32], cores: usize, p: u32, way: Way, q: u32) -> Reply
-    requires { ⌜ HasProcess (now t) cores p ⌝ }
-    ensures { λ r. ⌜ now (t .exit) ≡ set (set (now (t .entry)) (process-at cores p 8) q) (process-at cores p 6) (of-way (which way) 3) ⌝
-        ∗ ⌜ r ≡ four (yes-with MOVED) ⌝ }
-{
-    finds(t, cores, p, way, q)
-}
-
 // Park: swap one's plain name into the word. What stood there decides: nobody, or one who is choosing, who is to be triggered: one
 // falls asleep. A process: the look was stale, next copy.
 pub fn park_at(
@@ -125,7 +116,7 @@ pub fn park_at(
     match found {
         Holder::Nobody => sleeps(t, cores, k, p, way, 0, 0),
         Holder::Choosing(q) => sleeps(t, cores, k, p, way, 1, q),
-        Holder::Plain(q) => finds_late(t, cores, p, way, q),
+        Holder::Plain(q) => finds(t, cores, p, way, q),
     }
 }
 
@@ -203,7 +194,7 @@ pub fn wake_partner(
     if place != 3 {
         return answers::refused(answers::FAULT);
     }
-    queues::join(t, cores, processes, k, q);
+    queues::join(t, cores, k, q);
     let number = due_number(way);
     parts::reports(t, cores, p, number, c)
 }

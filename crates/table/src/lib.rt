@@ -5,13 +5,6 @@ ghost use lib.ListN.{length, getD, set, replicate};
 ghost use lib.Seq.{sets};
 ghost use Rattle.rules.specs.Packing.{core-at, process-at, channel-at};
 
-// A word as a place in the table.
-pub fn wide(x: u32) -> usize
-    ensures { λ r. ⌜ r ≡ x ⌝ }
-{
-    x as usize
-}
-
 pub fn core_word(t: &[u32], k: usize, f: usize) -> u32
     requires { ⌜ core-at k f < length (now t) ⌝ }
     ensures { λ r. ⌜ r ≡ getD (now (t .entry)) (core-at k f) 0 ⌝ }

@@ -37,8 +37,8 @@ sleeps-requires-2 c κs =
 enum-known-found-2 : tie.Need-enum-known-found-2
 enum-known-found-2 c = search needs
 
-finds-late-requires : tie.Need-finds-late-requires
-finds-late-requires c κs =
+finds-requires : tie.Need-finds-requires
+finds-requires c κs =
     let near = at-park (c .before .before .before .before .before .before .before .before .before .before .before .before .pre) in
     omega arith
 
@@ -82,7 +82,7 @@ returns-3 c =
     let at = found .before .before .before .pre in
     let there = found-near (at-park at) (went .before .before .before .found2 .given .1) (found .who-is-at .ensures) in
     let named = park-names at (name .plain-name .ensures) (written .set-word .ensures) in
-    park-copies at named there (went .finds-late .ensures .1) (went .finds-late .ensures .0)
+    park-copies at named there (went .finds .ensures .1) (went .finds .ensures .0)
 
 pub park-at-spec : {M : Type 1} → statement M
 park-at-spec =
@@ -96,7 +96,7 @@ park-at-spec =
     enum-known-found
     sleeps-requires-2
     enum-known-found-2
-    finds-late-requires
+    finds-requires
     same-length
     returns
     same-length-2
