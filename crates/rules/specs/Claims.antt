@@ -6,12 +6,28 @@ use mathlib.Core.List.{List, [], _∷_, List·Memᴰ}
 use mathlib.Core.Logic.{_↔_}
 use lib.Dec.{T}
 use Rattle.rules.specs.Lists.{member}
+use Rattle.rules.specs.Numbers.{Refusal, refusal-number}
 use Rattle.rules.specs.State.{State}
 use Rattle.rules.specs.Items.{Item}
 use Rattle.rules.specs.Requests.{send, receive, choose, yield, end}
 use Rattle.rules.specs.Packing.{pack, view}
 use Rattle.rules.specs.Soundness.{word32, valid, sound}
-use Rattle.rules.specs.Calls.{Result, Ask, the-step, a-request, call, Built, set-up-call}
+use Rattle.rules.specs.Calls.{
+  Result,
+  Ask,
+  the-step,
+  a-request,
+  call,
+  step-call,
+  send-call,
+  receive-call,
+  choose-call,
+  yield-call,
+  end-call,
+  Built,
+  set-up-call,
+}
+use Rattle.rules.specs.Refusals.{First, set-up-cases, call-cases}
 use Rattle.rules.specs.Touched.{touched}
 
 -- Packing
@@ -44,6 +60,26 @@ pub record RefusalWritesNothing : Type 0 where
   pub calls : (t answer : List ℕ) (k : ℕ) (ask : Ask) → 20 ≤ call t answer k ask .number
       → (call t answer k ask .answer ≡ answer) × (call t answer k ask .table ≡ t)
   pub set-up : (k n m : ℕ) (pairs t : List ℕ) → 20 ≤ set-up-call k n m pairs t .number → set-up-call k n m pairs t .table ≡ t
+
+-- `refused-exactly`: a refusal comes exactly in its stated case: a call returns its number where its case is given and none before it in
+-- 01's order, and only there.
+pub record RefusedExactly : Type 0 where
+  pub calls : (t answer : List ℕ) (k : ℕ) (ask : Ask) (why : Refusal)
+      → (call t answer k ask .number ≡ refusal-number why) ↔ First (call-cases t answer k ask) why
+  pub set-up : (k n m : ℕ) (pairs t : List ℕ) (why : Refusal)
+      → (set-up-call k n m pairs t .number ≡ refusal-number why) ↔ First (set-up-cases k n m pairs t) why
+
+-- `own-numbers`: each export returns one of the numbers that include/fontarisca.h lists for it.
+pub record OwnNumbers : Type 0 where
+  pub set-up : (k n m : ℕ) (pairs t : List ℕ) → T (member (set-up-call k n m pairs t .number) (0 ∷ 20 ∷ 21 ∷ 22 ∷ 23 ∷ 24 ∷ []))
+  pub send : (t answer : List ℕ) (k c v : ℕ) → T (member (send-call t answer k c v .number) (1 ∷ 25 ∷ 26 ∷ 27 ∷ 28 ∷ 31 ∷ 32 ∷ []))
+  pub receive : (t answer : List ℕ) (k c : ℕ) → T (member (receive-call t answer k c .number) (1 ∷ 25 ∷ 26 ∷ 27 ∷ 28 ∷ 31 ∷ 32 ∷ []))
+  pub choose : (t answer : List ℕ) (k : ℕ) (gs : List ℕ)
+      → T (member (choose-call t answer k gs .number) (1 ∷ 25 ∷ 26 ∷ 27 ∷ 28 ∷ 30 ∷ 31 ∷ 32 ∷ 33 ∷ []))
+  pub yield : (t answer : List ℕ) (k : ℕ) → T (member (yield-call t answer k .number) (1 ∷ 25 ∷ 26 ∷ 27 ∷ 28 ∷ []))
+  pub end : (t answer : List ℕ) (k : ℕ) → T (member (end-call t answer k .number) (1 ∷ 25 ∷ 26 ∷ 27 ∷ 28 ∷ []))
+  pub step : (t answer : List ℕ) (k : ℕ)
+      → T (member (step-call t answer k .number) (2 ∷ 3 ∷ 4 ∷ 5 ∷ 6 ∷ 7 ∷ 8 ∷ 25 ∷ 26 ∷ 27 ∷ 29 ∷ 34 ∷ []))
 
 -- "Values sent are any 32-bit number." The exports take no other; the claims below speak of such asks.
 abbrev pub sends-word : Ask → Bool

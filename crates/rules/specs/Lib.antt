@@ -11,6 +11,7 @@ pub mod SetUp
 pub mod Packing
 pub mod Soundness
 pub mod Calls
+pub mod Refusals
 pub mod Touched
 pub mod BenchSheet
 pub mod Shortcuts
