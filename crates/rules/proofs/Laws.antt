@@ -5,6 +5,12 @@ pub mod Whole
 pub mod SameResult
 pub mod ListedNumber
 pub mod RefusalWritesNothing
+pub mod Says
+pub mod StepSays
+pub mod RequestSays
+pub mod CallSays
+pub mod RefusedExactly
+pub mod OwnNumbers
 pub mod StaysSound
 pub mod OnlyCopyCounts
 pub mod EitherOrder

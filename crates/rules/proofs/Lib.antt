@@ -6,5 +6,4 @@ pub mod QueueLists
 pub mod Packing
 pub mod Validity
 pub mod Laws
-pub mod BenchSheet
-pub mod Examples
+pub mod Computed

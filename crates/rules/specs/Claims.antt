@@ -1,41 +1,112 @@
--- What is claimed of the rules, as types, a sentence each. The proofs stand elsewhere, each under the name given here.
+-- What is claimed of the rules, as types, each under the demand that it belongs to. The proofs stand in rules/proofs, each under the name
+-- that is given here. `T b` says that the test b holds, `A ↔ B` that A and B hold together.
 use Prim.Native.Nat.{ℕ, _+_, _%_, _≤_, _<_}
 use mathlib.Core.Path.{_≡_}
 use mathlib.Core.Bool.{Bool, true}
-use mathlib.Core.List.{List, [], _∷_, List·Memᴰ}
+use mathlib.Core.List.{List, [], _∷_, map, List·Memᴰ}
 use mathlib.Core.Logic.{_↔_}
 use lib.Dec.{T}
 use lib.ListN.{length, getD}
 use Rattle.rules.specs.Lists.{within, total, member, times, first, last}
+use Rattle.rules.specs.Numbers.{Answer, BUILT, TAKEN, MOVED, SLEPT, IDLE, GO, SENT, GOT, CHOSE, Refusal, SIZE, PAIRS, ROOM, NAME, SELF, ANSWER, DAMAGED, CORE, BUSY, AWAITED, GUARDS, CHANNEL, OTHER-END, TWICE, FAULT, reply, refusal-number, words-of}
 use Rattle.rules.specs.State.{Way, copy, doing, no-task, runs, free, Core, State, wiring}
 use Rattle.rules.specs.Items.{progress, transfers, Item, core-of, get}
 use Rattle.rules.specs.Requests.{send, receive, choose, yield, end}
 use Rattle.rules.specs.SetUp.{room}
-use Rattle.rules.specs.Packing.{
-  heads,
-  pack,
-  word-at,
-  word-of-core,
-  word-of-process,
-  core-task,
-  core-task-process,
-  core-first,
-  core-last,
-  core-size,
-  core-first-head,
-  core-last-head,
-  process-next,
-  process-last,
-  process-size,
-  process-next-head,
-  view,
-}
+use Rattle.rules.specs.Packing.{heads, pack, word-at, word-of-core, word-of-process, core-task, core-task-process, core-first, core-last, core-size, core-first-head, core-last-head, process-next, process-last, process-size, process-next-head, view}
 use Rattle.rules.specs.UsedWords.{used-words}
 use Rattle.rules.specs.Soundness.{word32, is-process, in-queues, valid, sound}
-use Rattle.rules.specs.Calls.{Result, Ask, the-step, a-request, call, Built, set-up-call}
+use Rattle.rules.specs.Calls.{Result, Ask, the-step, a-request, call, step-call, send-call, receive-call, choose-call, yield-call, end-call, Built, set-up-call}
+use Rattle.rules.specs.Refusals.{First, set-up-cases, call-cases}
 use Rattle.rules.specs.Touched.{touched}
+use Rattle.rules.specs.BenchSheet.{BenchSheet}
+use Rattle.rules.specs.Examples.{Examples}
+use Rattle.rules.specs.Shortcuts.{Shortcuts}
 
--- Packing
+-- Demand 1: "Each call, on any table and any arguments, returns one of the listed numbers; a refusal comes exactly in its stated case and
+-- changes nothing."
+
+-- the number and the words of an answer
+abbrev pub row : Answer → List ℕ
+row a = reply a .number ∷ words-of a
+
+-- `computed`, numbers-table: 01's table, row by row.
+pub record NumbersTable : Type 0 where
+  pub answers : (p c v : ℕ)
+      → map row (BUILT ∷ TAKEN p c ∷ MOVED ∷ SLEPT p ∷ IDLE ∷ GO p ∷ SENT p c ∷ GOT p c v ∷ CHOSE p c ∷ [])
+      ≡ (0 ∷ 0 ∷ 0 ∷ 0 ∷ []) ∷ (1 ∷ p ∷ c ∷ 0 ∷ []) ∷ (2 ∷ 0 ∷ 0 ∷ 0 ∷ []) ∷ (3 ∷ p ∷ 0 ∷ 0 ∷ []) ∷ (4 ∷ 0 ∷ 0 ∷ 0 ∷ [])
+      ∷ (5 ∷ p ∷ 0 ∷ 0 ∷ []) ∷ (6 ∷ p ∷ c ∷ 0 ∷ []) ∷ (7 ∷ p ∷ c ∷ v ∷ []) ∷ (8 ∷ p ∷ c ∷ 0 ∷ []) ∷ []
+  pub refusals : map refusal-number
+      (SIZE ∷ PAIRS ∷ ROOM ∷ NAME ∷ SELF ∷ ANSWER ∷ DAMAGED ∷ CORE ∷ BUSY ∷ AWAITED ∷ GUARDS ∷ CHANNEL ∷ OTHER-END ∷ TWICE ∷ FAULT ∷ [])
+      ≡ 20 ∷ 21 ∷ 22 ∷ 23 ∷ 24 ∷ 25 ∷ 26 ∷ 27 ∷ 28 ∷ 29 ∷ 30 ∷ 31 ∷ 32 ∷ 33 ∷ 34 ∷ []
+
+-- `listed-number`: each call, on any table and any arguments, returns one of the listed numbers.
+abbrev pub listed : List ℕ
+listed =
+    0 ∷ 1 ∷ 2 ∷ 3 ∷ 4 ∷ 5 ∷ 6 ∷ 7 ∷ 8 ∷ 20 ∷ 21 ∷ 22 ∷ 23 ∷ 24 ∷ 25 ∷ 26 ∷ 27 ∷ 28 ∷ 29 ∷ 30 ∷ 31 ∷ 32 ∷ 33 ∷ 34 ∷ []
+
+pub record ListedNumber : Type 0 where
+  pub calls : (t answer : List ℕ) (k : ℕ) (ask : Ask) → T (member (call t answer k ask .number) listed)
+  pub set-up : (k n m : ℕ) (pairs t : List ℕ) → T (member (set-up-call k n m pairs t .number) listed)
+
+-- `own-numbers`: each export returns one of the numbers that include/fontarisca.h lists for it.
+pub record OwnNumbers : Type 0 where
+  pub set-up : (k n m : ℕ) (pairs t : List ℕ) → T (member (set-up-call k n m pairs t .number) (0 ∷ 20 ∷ 21 ∷ 22 ∷ 23 ∷ 24 ∷ []))
+  pub send : (t answer : List ℕ) (k c v : ℕ) → T (member (send-call t answer k c v .number) (1 ∷ 25 ∷ 26 ∷ 27 ∷ 28 ∷ 31 ∷ 32 ∷ []))
+  pub receive : (t answer : List ℕ) (k c : ℕ) → T (member (receive-call t answer k c .number) (1 ∷ 25 ∷ 26 ∷ 27 ∷ 28 ∷ 31 ∷ 32 ∷ []))
+  pub choose : (t answer : List ℕ) (k : ℕ) (gs : List ℕ)
+      → T (member (choose-call t answer k gs .number) (1 ∷ 25 ∷ 26 ∷ 27 ∷ 28 ∷ 30 ∷ 31 ∷ 32 ∷ 33 ∷ []))
+  pub yield : (t answer : List ℕ) (k : ℕ) → T (member (yield-call t answer k .number) (1 ∷ 25 ∷ 26 ∷ 27 ∷ 28 ∷ []))
+  pub end : (t answer : List ℕ) (k : ℕ) → T (member (end-call t answer k .number) (1 ∷ 25 ∷ 26 ∷ 27 ∷ 28 ∷ []))
+  pub step : (t answer : List ℕ) (k : ℕ)
+      → T (member (step-call t answer k .number) (2 ∷ 3 ∷ 4 ∷ 5 ∷ 6 ∷ 7 ∷ 8 ∷ 25 ∷ 26 ∷ 27 ∷ 29 ∷ 34 ∷ []))
+
+-- `refused-exactly`: a refusal comes exactly in its stated case: a call returns its number where its case is given and none before it in
+-- 01's order, and only there.
+pub record RefusedExactly : Type 0 where
+  pub calls : (t answer : List ℕ) (k : ℕ) (ask : Ask) (why : Refusal)
+      → (call t answer k ask .number ≡ refusal-number why) ↔ First (call-cases t answer k ask) why
+  pub set-up : (k n m : ℕ) (pairs t : List ℕ) (why : Refusal)
+      → (set-up-call k n m pairs t .number ≡ refusal-number why) ↔ First (set-up-cases k n m pairs t) why
+
+-- `refusal-writes-nothing`: "A refusal writes nothing anywhere." (Refusals are the numbers from 20 up.)
+pub record RefusalWritesNothing : Type 0 where
+  pub calls : (t answer : List ℕ) (k : ℕ) (ask : Ask) → 20 ≤ call t answer k ask .number
+      → (call t answer k ask .answer ≡ answer) × (call t answer k ask .table ≡ t)
+  pub set-up : (k n m : ℕ) (pairs t : List ℕ) → 20 ≤ set-up-call k n m pairs t .number → set-up-call k n m pairs t .table ≡ t
+
+-- Demand 2: "Each accepted call does exactly the step that the published rules give, and no other."
+-- It is made of three parts. What an export gives back is what its call's definition (Calls.antt) says: the rule's own run from the state
+-- that the table packs, for number, answer words and whole table (`Meets`, which each export's contract is). A table packs one state, and
+-- each call leaves one that does. And the rules are the published ones: they are read against 01 and 000, and computed in every case.
+
+-- What an export gives back
+
+-- What came back from an export: its number, and the answer slice and the table as it left them; from set-up.
+abbrev pub gives : ℕ → List ℕ → List ℕ → Result
+gives n answer t = record { number = n; answer = answer; table = t }
+
+abbrev pub builds : ℕ → List ℕ → Built
+builds n t = record { number = n; table = t }
+
+-- A result meets an export's promise where number, answer words and table are those of the call's definition. The contract of each
+-- export says that what it gives, or builds, meets its call.
+pub record Meets (promised r : Result) : Type 0 where
+  pub number : r .number ≡ promised .number
+  pub answer : r .answer ≡ promised .answer
+  pub table : r .table ≡ promised .table
+
+pub record MeetsBuilt (promised b : Built) : Type 0 where
+  pub number : b .number ≡ promised .number
+  pub table : b .table ≡ promised .table
+
+-- `same-result`: "two results which meet a promise are equal"
+pub record SameResult : Type 0 where
+  pub calls : (t answer : List ℕ) (k : ℕ) (ask : Ask) (r r′ : Result) → Meets (call t answer k ask) r → Meets (call t answer k ask) r′ → r ≡ r′
+  pub set-up : (k n m : ℕ) (pairs t : List ℕ) (r r′ : Built)
+      → MeetsBuilt (set-up-call k n m pairs t) r → MeetsBuilt (set-up-call k n m pairs t) r′ → r ≡ r′
+
+-- What a table packs
 
 -- `view-of-pack`: what is read out of the packing of a valid state is that state.
 abbrev pub ViewOfPack : Type 0
@@ -86,23 +157,6 @@ pub record KeptWords : Type 0 where
       → let batch = getD (core-of s k .run-queue) i [] in let w = word-of-process (pack s) (first batch) in
       (w process-last ≡ last batch) × (w process-size ≡ length batch)
 
--- Demand 1
-
--- `listed-number`: each call, on any table and any arguments, returns one of the listed numbers.
-abbrev pub listed : List ℕ
-listed =
-    0 ∷ 1 ∷ 2 ∷ 3 ∷ 4 ∷ 5 ∷ 6 ∷ 7 ∷ 8 ∷ 20 ∷ 21 ∷ 22 ∷ 23 ∷ 24 ∷ 25 ∷ 26 ∷ 27 ∷ 28 ∷ 29 ∷ 30 ∷ 31 ∷ 32 ∷ 33 ∷ 34 ∷ []
-
-pub record ListedNumber : Type 0 where
-  pub calls : (t answer : List ℕ) (k : ℕ) (ask : Ask) → T (member (call t answer k ask .number) listed)
-  pub set-up : (k n m : ℕ) (pairs t : List ℕ) → T (member (set-up-call k n m pairs t .number) listed)
-
--- `refusal-writes-nothing`: "A refusal writes nothing anywhere." (Refusals are the numbers from 20 up.)
-pub record RefusalWritesNothing : Type 0 where
-  pub calls : (t answer : List ℕ) (k : ℕ) (ask : Ask) → 20 ≤ call t answer k ask .number
-      → (call t answer k ask .answer ≡ answer) × (call t answer k ask .table ≡ t)
-  pub set-up : (k n m : ℕ) (pairs t : List ℕ) → 20 ≤ set-up-call k n m pairs t .number → set-up-call k n m pairs t .table ≡ t
-
 -- "Values sent are any 32-bit number." The exports take no other; the claims below speak of such asks.
 abbrev pub sends-word : Ask → Bool
 sends-word the-step = true
@@ -118,7 +172,14 @@ pub record StaysSound : Type 0 where
   pub calls : (t answer : List ℕ) (k : ℕ) (ask : Ask) → T (sends-word ask) → T (sound t) → T (sound (call t answer k ask .table))
   pub set-up : (k n m : ℕ) (pairs t : List ℕ) → set-up-call k n m pairs t .number ≡ 0 → T (sound (set-up-call k n m pairs t .table))
 
--- Transfers
+-- The published rules
+
+-- `computed`: what the rules come to, case by case: 01's starred cases, where its shortcuts would fail, and the examples.
+pub record Computed : Type 0 where
+  pub numbers-table : NumbersTable
+  pub bench-sheet : BenchSheet
+  pub shortcuts : Shortcuts
+  pub examples : Examples
 
 -- a call that is a step of core k, whose running process stands at copy on channel c
 pub record Copying (s : State) (k : ℕ) (ask : Ask) (c : ℕ) : Type 0 where
@@ -137,33 +198,8 @@ pub record OnlyCopyCounts : Type 0 where
   pub copying : (t answer : List ℕ) (k : ℕ) (ask : Ask) (c : ℕ) → T (sound t) → length answer ≡ 3 → Copying (view t) k ask c
       → get transfers (view (call t answer k ask .table)) c ≡ (get transfers (view t) c + 1) % 4294967296
 
--- Strength of the promises
-
--- What came back from an export: its number, and the answer slice and the table as it left them; from set-up.
-abbrev pub gives : ℕ → List ℕ → List ℕ → Result
-gives n answer t = record { number = n; answer = answer; table = t }
-
-abbrev pub builds : ℕ → List ℕ → Built
-builds n t = record { number = n; table = t }
-
--- A result meets an export's promise where number, answer words and table are those of the call's definition. The contract of each
--- export says that what it gives, or builds, meets its call.
-pub record Meets (promised r : Result) : Type 0 where
-  pub number : r .number ≡ promised .number
-  pub answer : r .answer ≡ promised .answer
-  pub table : r .table ≡ promised .table
-
-pub record MeetsBuilt (promised b : Built) : Type 0 where
-  pub number : b .number ≡ promised .number
-  pub table : b .table ≡ promised .table
-
--- `same-result`: "two results which meet a promise are equal"
-pub record SameResult : Type 0 where
-  pub calls : (t answer : List ℕ) (k : ℕ) (ask : Ask) (r r′ : Result) → Meets (call t answer k ask) r → Meets (call t answer k ask) r′ → r ≡ r′
-  pub set-up : (k n m : ℕ) (pairs t : List ℕ) (r r′ : Built)
-      → MeetsBuilt (set-up-call k n m pairs t) r → MeetsBuilt (set-up-call k n m pairs t) r′ → r ≡ r′
-
--- Demand 3
+-- Demand 3: "Two calls on different cores whose touched items have nothing in common give the same two answers and the same table in
+-- either order."
 
 -- two lists of items have nothing in common
 abbrev pub Apart : List Item → List Item → Type 0
@@ -186,8 +222,7 @@ pub record Commute (t : List ℕ) (c d : Call) : Type 0 where
   pub answer-of-d : perform d (perform c t .table) .answer ≡ perform d t .answer
   pub table : perform d (perform c t .table) .table ≡ perform c (perform d t .table) .table
 
--- `either-order`: "Two calls on different cores whose touched items have nothing in common give the same two answers and the same
--- table in either order." "A call's list is read off the table before either call." Refused calls are included.
+-- `either-order`: the demand. "A call's list is read off the table before either call." Refused calls are included.
 abbrev pub EitherOrder : Type 0
 EitherOrder =
     (t : List ℕ) (c d : Call) → T (sends-word (c .ask)) → T (sends-word (d .ask)) → T (sound t) → (c .core ≡ d .core → ⊥)

@@ -12,6 +12,7 @@ pub mod Packing
 pub mod UsedWords
 pub mod Soundness
 pub mod Calls
+pub mod Refusals
 pub mod Touched
 pub mod BenchSheet
 pub mod Examples

@@ -35,3 +35,7 @@ BothGuards =
     (steps 2 ∷ steps 2 ∷ chooses 2 (1 ∷ 2 ∷ [])
     ∷ steps 2 ∷ steps 2 ∷ steps 2 ∷ steps 2 ∷ steps 2 ∷ steps 2 ∷ steps 2 ∷ steps 2 ∷ [])
     ≡ said (MOVED ∷ GO 3 ∷ TAKEN 3 0 ∷ MOVED ∷ MOVED ∷ MOVED ∷ MOVED ∷ MOVED ∷ MOVED ∷ MOVED ∷ CHOSE 3 1 ∷ [])
+
+pub record Shortcuts : Type 0 where
+  pub still-asleep : StillAsleep
+  pub both-guards : BothGuards
