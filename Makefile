@@ -7,7 +7,14 @@ SHARED := host/card.c host/lent.c host/options.c
 SCENARIOS := target/host/ring target/host/collectors
 TRIALS := target/host/numbers target/host/outside
 
-.PHONY: help run test hosts sanitized header bench clean
+# the archive is for x86-64: on another machine host/machine has a compiler for it and an emulator
+ifneq ($(shell uname -m),x86_64)
+CC := x86_64-linux-gnu-gcc
+export OBJDUMP := x86_64-linux-gnu-objdump
+export OBJCOPY := x86_64-linux-gnu-objcopy
+endif
+
+.PHONY: help run test hosts sanitized header machine bench clean
 
 help: ## list the targets
 	@grep -E '^[a-z]+:.*## ' $(MAKEFILE_LIST) | sed -E 's/^([a-z]+):.*## /  \1: /'
@@ -29,7 +36,10 @@ header: ## compile the header as C and as C++, and compare its numbers with docs
 $(LIBRARY): $(shell find crates -name '*.rt' -o -name '*.antt') crates.txt
 	rt staticlib fontarisca
 
-target/host/%: host/%.c $(SHARED) $(wildcard host/*.h) include/fontarisca.h $(LIBRARY)
+machine:
+	@host/machine
+
+target/host/%: host/%.c $(SHARED) $(wildcard host/*.h) include/fontarisca.h $(LIBRARY) | machine
 	@mkdir -p target/host
 	$(CC) $(CFLAGS) $< $(SHARED) $(LIBRARY) -o $@
 
@@ -37,10 +47,11 @@ target/sanitized/%: host/%.c $(SHARED) $(wildcard host/*.h) include/fontarisca.h
 	@mkdir -p target/sanitized
 	$(CC) $(CFLAGS) $(SANITIZE) $< $(SHARED) $(LIBRARY) -o $@
 
-target/bench/libunchecked.a: $(LIBRARY) host/without-check
+target/bench/libunchecked.a: $(LIBRARY) host/without-check | machine
 	host/without-check
 
 bench: target/bench/libunchecked.a ## time the library, plain Rust and the model on the ring, and write docs/BENCH.md
+	@[ "$$(uname -m)" = x86_64 ] || { echo "the archive is for x86-64: its times under an emulator say nothing"; exit 1; }
 	CARGO_TARGET_DIR=target/rust FONTARISCA_LIB=target/staticlib cargo build --profile timed --offline --quiet \
 	    --manifest-path host/rust/Cargo.toml --features unchecked --bin bench
 	target/rust/timed/bench --page host/bench.template docs/BENCH.md

@@ -28,6 +28,7 @@ unfolding flatMap core-words progress-words next-link head-link batch-link proce
 computed =
     record {
       numbers-table = record { answers = λ p c v. refl; refusals = refl };
+      reached-numbers = record { set-up = refl; send = refl; receive = refl; choose = refl; yield = refl; end = refl; step = refl };
       bench-sheet =
           record {
             case-1 = (refl, refl, refl);

@@ -21,6 +21,7 @@ use Rattle.rules.specs.Refusals.{First, set-up-cases, call-cases}
 use Rattle.rules.specs.Touched.{touched}
 use Rattle.rules.specs.BenchSheet.{BenchSheet}
 use Rattle.rules.specs.Examples.{Examples}
+use Rattle.rules.specs.Examples.Reached.{set-up-results, send-results, receive-results, choose-results, yield-results, end-results, step-results}
 use Rattle.rules.specs.Shortcuts.{Shortcuts}
 
 -- Demand 1: "Each call, on any table and any arguments, returns one of the listed numbers; a refusal comes exactly in its stated case and
@@ -49,17 +50,47 @@ pub record ListedNumber : Type 0 where
   pub calls : (t answer : List ℕ) (k : ℕ) (ask : Ask) → T (member (call t answer k ask .number) listed)
   pub set-up : (k n m : ℕ) (pairs t : List ℕ) → T (member (set-up-call k n m pairs t .number) listed)
 
--- `own-numbers`: each export returns one of the numbers that include/fontarisca.h lists for it.
+-- the numbers that include/fontarisca.h lists for each export
+abbrev pub set-up-numbers : List ℕ
+set-up-numbers = 0 ∷ 20 ∷ 21 ∷ 22 ∷ 23 ∷ 24 ∷ []
+
+abbrev pub send-numbers : List ℕ
+send-numbers = 1 ∷ 25 ∷ 26 ∷ 27 ∷ 28 ∷ 31 ∷ 32 ∷ []
+
+abbrev pub receive-numbers : List ℕ
+receive-numbers = 1 ∷ 25 ∷ 26 ∷ 27 ∷ 28 ∷ 31 ∷ 32 ∷ []
+
+abbrev pub choose-numbers : List ℕ
+choose-numbers = 1 ∷ 25 ∷ 26 ∷ 27 ∷ 28 ∷ 30 ∷ 31 ∷ 32 ∷ 33 ∷ []
+
+abbrev pub yield-numbers : List ℕ
+yield-numbers = 1 ∷ 25 ∷ 26 ∷ 27 ∷ 28 ∷ []
+
+abbrev pub end-numbers : List ℕ
+end-numbers = 1 ∷ 25 ∷ 26 ∷ 27 ∷ 28 ∷ []
+
+abbrev pub step-numbers : List ℕ
+step-numbers = 2 ∷ 3 ∷ 4 ∷ 5 ∷ 6 ∷ 7 ∷ 8 ∷ 25 ∷ 26 ∷ 27 ∷ 29 ∷ 34 ∷ []
+
+-- `own-numbers`: each export returns one of its numbers.
 pub record OwnNumbers : Type 0 where
-  pub set-up : (k n m : ℕ) (pairs t : List ℕ) → T (member (set-up-call k n m pairs t .number) (0 ∷ 20 ∷ 21 ∷ 22 ∷ 23 ∷ 24 ∷ []))
-  pub send : (t answer : List ℕ) (k c v : ℕ) → T (member (send-call t answer k c v .number) (1 ∷ 25 ∷ 26 ∷ 27 ∷ 28 ∷ 31 ∷ 32 ∷ []))
-  pub receive : (t answer : List ℕ) (k c : ℕ) → T (member (receive-call t answer k c .number) (1 ∷ 25 ∷ 26 ∷ 27 ∷ 28 ∷ 31 ∷ 32 ∷ []))
-  pub choose : (t answer : List ℕ) (k : ℕ) (gs : List ℕ)
-      → T (member (choose-call t answer k gs .number) (1 ∷ 25 ∷ 26 ∷ 27 ∷ 28 ∷ 30 ∷ 31 ∷ 32 ∷ 33 ∷ []))
-  pub yield : (t answer : List ℕ) (k : ℕ) → T (member (yield-call t answer k .number) (1 ∷ 25 ∷ 26 ∷ 27 ∷ 28 ∷ []))
-  pub end : (t answer : List ℕ) (k : ℕ) → T (member (end-call t answer k .number) (1 ∷ 25 ∷ 26 ∷ 27 ∷ 28 ∷ []))
-  pub step : (t answer : List ℕ) (k : ℕ)
-      → T (member (step-call t answer k .number) (2 ∷ 3 ∷ 4 ∷ 5 ∷ 6 ∷ 7 ∷ 8 ∷ 25 ∷ 26 ∷ 27 ∷ 29 ∷ 34 ∷ []))
+  pub set-up : (k n m : ℕ) (pairs t : List ℕ) → T (member (set-up-call k n m pairs t .number) set-up-numbers)
+  pub send : (t answer : List ℕ) (k c v : ℕ) → T (member (send-call t answer k c v .number) send-numbers)
+  pub receive : (t answer : List ℕ) (k c : ℕ) → T (member (receive-call t answer k c .number) receive-numbers)
+  pub choose : (t answer : List ℕ) (k : ℕ) (gs : List ℕ) → T (member (choose-call t answer k gs .number) choose-numbers)
+  pub yield : (t answer : List ℕ) (k : ℕ) → T (member (yield-call t answer k .number) yield-numbers)
+  pub end : (t answer : List ℕ) (k : ℕ) → T (member (end-call t answer k .number) end-numbers)
+  pub step : (t answer : List ℕ) (k : ℕ) → T (member (step-call t answer k .number) step-numbers)
+
+-- `computed`, reached-numbers: and each of them in some case.
+pub record ReachedNumbers : Type 0 where
+  pub set-up : set-up-results ≡ set-up-numbers
+  pub send : send-results ≡ send-numbers
+  pub receive : receive-results ≡ receive-numbers
+  pub choose : choose-results ≡ choose-numbers
+  pub yield : yield-results ≡ yield-numbers
+  pub end : end-results ≡ end-numbers
+  pub step : step-results ≡ step-numbers
 
 -- `refused-exactly`: a refusal comes exactly in its stated case: a call returns its number where its case is given and none before it in
 -- 01's order, and only there.
@@ -177,6 +208,7 @@ pub record StaysSound : Type 0 where
 -- `computed`: what the rules come to, case by case: 01's starred cases, where its shortcuts would fail, and the examples.
 pub record Computed : Type 0 where
   pub numbers-table : NumbersTable
+  pub reached-numbers : ReachedNumbers
   pub bench-sheet : BenchSheet
   pub shortcuts : Shortcuts
   pub examples : Examples

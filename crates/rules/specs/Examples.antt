@@ -7,6 +7,7 @@ pub mod Scheduling
 pub mod Asking
 pub mod Bounds
 pub mod Tables
+pub mod Reached
 use mathlib.Core.Path.{_≡_}
 use mathlib.Core.Bool.{true, false}
 use mathlib.Core.List.{List, [], _∷_, _++_, map}

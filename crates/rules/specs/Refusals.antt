@@ -166,11 +166,6 @@ stage-deeds p (disable gs i r) = []
 stage-deeds p (lower gs i r) = lowers p ∷ []
 stage-deeds p (finish gs r) = finishes r ∷ lowers p ∷ []
 
-abbrev pub progress-deeds : ℕ → Progress → List Deed
-progress-deeds p nothing = []
-progress-deeds p (doing x) = stage-deeds p x
-progress-deeds p (due o) = []
-
 -- "Trigger q (kernel task): .. count - 1"; "Wake q: as above"
 abbrev pub task-deeds : Task → List Deed
 task-deeds no-task = []
@@ -181,12 +176,15 @@ task-deeds (wake-up q) = wakes q ∷ []
 abbrev pub fault-cases : State → List Deed → List Case
 fault-cases s deeds = map (λ (d : Deed). FAULT when at-fault s d) deeds
 
--- "AWAITED: a step, but the running process has nothing in hand"
+-- "AWAITED: a step, but the running process has nothing in hand" (No running process has an outcome due.)
+abbrev pub running-cases : State → ℕ → Progress → List Case
+running-cases s p nothing = AWAITED when true ∷ []
+running-cases s p (doing x) = fault-cases s (stage-deeds p x)
+running-cases s p (due o) = []
+
 abbrev pub step-cases : State → Work → List Case
 step-cases s (free t) = fault-cases s (task-deeds t)
-step-cases s (runs p) =
-    let has = process-of s p .progress in
-    AWAITED when not (in-hand has) ∷ fault-cases s (progress-deeds p has)
+step-cases s (runs p) = running-cases s p (process-of s p .progress)
 
 -- Calls
 

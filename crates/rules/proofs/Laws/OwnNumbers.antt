@@ -5,7 +5,7 @@ use mathlib.Core.List.{List, [], _∷_, _++_}
 use lib.Dec.{T, eqb}
 use Rattle.rules.specs.Lists.{member}
 use Rattle.rules.specs.Numbers.{refusal-number}
-use Rattle.rules.specs.State.{Work, runs, free, State}
+use Rattle.rules.specs.State.{Progress, nothing, doing, due, Work, runs, free, State}
 use Rattle.rules.specs.Items.{core-of, process-of}
 use Rattle.rules.specs.Requests.{Request, send, receive, choose, yield, end}
 use Rattle.rules.specs.Packing.{view}
@@ -19,9 +19,10 @@ use Rattle.rules.specs.Refusals.{
   asked-cases,
   request-cases,
   Deed,
-  progress-deeds,
+  stage-deeds,
   task-deeds,
   fault-cases,
+  running-cases,
   step-cases,
   call-cases,
 }
@@ -71,9 +72,15 @@ faults-own : (s : State) (deeds : List Deed) → T (among (25 ∷ 26 ∷ 27 ∷ 
 faults-own s [] = tt
 faults-own s (d ∷ rest) = faults-own s rest
 
+-- of the running process, by its progress
+running-own : (s : State) (p : ℕ) (has : Progress) → T (among (25 ∷ 26 ∷ 27 ∷ 29 ∷ 34 ∷ []) (running-cases s p has))
+running-own s p nothing = tt
+running-own s p (doing x) = faults-own s (stage-deeds p x)
+running-own s p (due o) = tt
+
 -- whatever the core's work
 step-own : (s : State) (w : Work) → T (among (25 ∷ 26 ∷ 27 ∷ 29 ∷ 34 ∷ []) (step-cases s w))
-step-own s (runs p) = faults-own s (progress-deeds p (process-of s p .progress))
+step-own s (runs p) = running-own s p (process-of s p .progress)
 step-own s (free t) = faults-own s (task-deeds t)
 
 module _ (t answer : List ℕ) (k : ℕ) where

@@ -6,7 +6,7 @@ use mathlib.Core.List.{List, [], _∷_}
 use mathlib.Core.Option.{none, some}
 use lib.Dec.{T, eqb, eqb·suc-zero}
 use Rattle.rules.specs.Lists.{if_then_else_}
-use Rattle.rules.specs.Numbers.{Answer, AWAITED, FAULT}
+use Rattle.rules.specs.Numbers.{Answer, FAULT}
 use Rattle.rules.specs.State.{
   Place,
   running,
@@ -60,7 +60,7 @@ use Rattle.rules.specs.Choice.{guard, lowered, raised, name-placed, wait
 use Rattle.rules.specs.Scheduler.{taken, schedule, stage-step, running-step, work-step}
 use Rattle.rules.specs.Soundness.{fits}
 use Rattle.rules.specs.Calls.{the-step}
-use Rattle.rules.specs.Refusals.{Case, _when_, in-hand, is-asleep, stage-deeds, progress-deeds, fault-cases, step-cases}
+use Rattle.rules.specs.Refusals.{Case, _when_, is-asleep, stage-deeds, fault-cases, running-cases, step-cases}
 use Rattle.rules.proofs.Laws.Says.{Says, answers-of, said}
 
 -- what the rule of a step says from a state
@@ -145,8 +145,7 @@ module _ (s : State) (k p : ℕ) where
   stage-says (finish gs (some i)) = lowered-says s (get alternation s p .count) _ (λ n _. finished-says k p (guard gs i) n _)
 
   -- the running process, by its progress
-  running-says : (has : Progress) → T (fits running has)
-      → StepSays (running-step k p has) s (AWAITED when not (in-hand has) ∷ fault-cases s (progress-deeds p has))
+  running-says : (has : Progress) → T (fits running has) → StepSays (running-step k p has) s (running-cases s p has)
   running-says nothing h = refl
   running-says (doing x) h = stage-says x
   running-says (due o) h = absurd h

@@ -1,0 +1,73 @@
+-- A call of each export for each number that it returns, in the order of the header; what each returned.
+use Prim.Native.Nat.{ℕ}
+use mathlib.Core.Bool.{false}
+use mathlib.Core.List.{List, [], _∷_, _++_, map}
+use mathlib.Core.Option.{some}
+use lib.ListN.{replicate}
+use Rattle.rules.specs.State.{sending, receiving, look, park, wake, finish, Progress, nothing, doing}
+use Rattle.rules.specs.Items.{alternation}
+use Rattle.rules.specs.Requests.{Request, send, receive, choose, yield, end}
+use Rattle.rules.specs.SetUp.{room}
+use Rattle.rules.specs.Packing.{pack}
+use Rattle.rules.specs.Calls.{Result, Ask, the-step, a-request, call, set-up-call}
+use Rattle.rules.specs.Examples.Card.{Change, _of_is_, changed, alternating, card, runs-with}
+
+-- on the card with these changes
+abbrev pub table : List Change → List ℕ
+table l = pack (changed card l)
+
+abbrev pub three : List ℕ
+three = 0 ∷ 0 ∷ 0 ∷ []
+
+abbrev pub numbers : List Result → List ℕ
+numbers l = map (λ (r : Result). r .number) l
+
+-- ANSWER, DAMAGED, CORE
+abbrev pub first-refusals : Ask → List Result
+first-refusals a = call (table []) [] 0 a ∷ call [] three 0 a ∷ call (table []) three 2 a ∷ []
+
+-- what process p, with this in hand, gets on core 0
+abbrev pub step-of : ℕ → Progress → Result
+step-of p x = call (table (runs-with p x ++ (alternation of p is alternating false false false 1 ∷ []))) three 0 the-step
+
+abbrev pub step-results : List ℕ
+step-results =
+    numbers
+    (step-of 1 (doing (look sending 1)) ∷ step-of 1 (doing (park sending 1)) ∷ call (table []) three 1 the-step
+    ∷ call (table []) three 0 the-step ∷ step-of 1 (doing (wake sending 1 2)) ∷ step-of 2 (doing (wake receiving 1 1))
+    ∷ step-of 2 (doing (finish (1 ∷ []) (some 1))) ∷ [])
+    ++ numbers (first-refusals the-step ++ (step-of 1 nothing ∷ step-of 1 (doing (wake sending 1 1)) ∷ []))
+
+-- what p, with nothing in hand, gets for a request
+abbrev pub asks : ℕ → Request → Result
+asks p r = call (table (runs-with p nothing)) three 0 (a-request r)
+
+-- TAKEN, the first refusals, BUSY, and then others
+abbrev pub request-results : ℕ → Request → List Result → List ℕ
+request-results p r others = numbers (asks p r ∷ first-refusals (a-request r) ++ (call (table []) three 0 (a-request r) ∷ others))
+
+abbrev pub send-results : List ℕ
+send-results = request-results 1 (send 1 7) (asks 1 (send 3 7) ∷ asks 1 (send 2 7) ∷ [])
+
+abbrev pub receive-results : List ℕ
+receive-results = request-results 2 (receive 1) (asks 2 (receive 3) ∷ asks 1 (receive 1) ∷ [])
+
+abbrev pub choose-results : List ℕ
+choose-results =
+    request-results 2 (choose (1 ∷ []))
+    (asks 2 (choose []) ∷ asks 2 (choose (3 ∷ [])) ∷ asks 1 (choose (1 ∷ [])) ∷ asks 2 (choose (1 ∷ 1 ∷ [])) ∷ [])
+
+abbrev pub yield-results : List ℕ
+yield-results = request-results 1 yield []
+
+abbrev pub end-results : List ℕ
+end-results = request-results 1 end []
+
+-- BUILT, SIZE, PAIRS, ROOM, NAME, SELF
+abbrev pub set-up-of : ℕ → ℕ → List ℕ → ℕ → ℕ
+set-up-of n m pairs size = set-up-call 1 n m pairs (replicate size 7) .number
+
+abbrev pub set-up-results : List ℕ
+set-up-results =
+    set-up-of 2 1 (1 ∷ 2 ∷ []) (room 1 2 1) ∷ set-up-of 0 1 (1 ∷ 2 ∷ []) (room 1 2 1) ∷ set-up-of 2 1 (1 ∷ []) (room 1 2 1)
+    ∷ set-up-of 2 1 (1 ∷ 2 ∷ []) 0 ∷ set-up-of 2 1 (1 ∷ 3 ∷ []) (room 1 2 1) ∷ set-up-of 2 1 (2 ∷ 2 ∷ []) (room 1 2 1) ∷ []
