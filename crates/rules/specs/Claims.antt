@@ -205,7 +205,8 @@ pub record StaysSound : Type 0 where
 
 -- The published rules
 
--- `computed`: what the rules come to, case by case: 01's starred cases, where its shortcuts would fail, and the examples.
+-- `computed`: what the rules come to, case by case: the table of numbers, 01's starred cases, what they do instead of two of its shortcuts
+-- (`still-asleep`, `both-guards`), and the examples.
 pub record Computed : Type 0 where
   pub numbers-table : NumbersTable
   pub reached-numbers : ReachedNumbers
