@@ -10,7 +10,7 @@ pub mod Tables
 pub mod Reached
 use mathlib.Core.Path.{_≡_}
 use mathlib.Core.Bool.{true, false}
-use mathlib.Core.List.{List, [], _∷_, _++_, map}
+use mathlib.Core.List.{List, [], _∷_, map}
 use Rattle.rules.specs.SetUp.{set-up-state}
 use Rattle.rules.specs.Packing.{pack}
 use Rattle.rules.specs.Calls.{Ask}

@@ -1,5 +1,4 @@
 -- Requests, accepted and refused, and what set-up builds.
-use Prim.Native.Nat.{ℕ}
 use mathlib.Core.Bool.{true, false}
 use mathlib.Core.List.{List, [], _∷_, _++_, map}
 use lib.ListN.{replicate}

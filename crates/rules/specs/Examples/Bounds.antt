@@ -5,7 +5,7 @@ use mathlib.Core.List.{List, [], _∷_, _++_}
 use mathlib.Core.Option.{none, some}
 use lib.ListN.{replicate}
 use Rattle.rules.specs.Lists.{from}
-use Rattle.rules.specs.State.{running, queued, asleep, ended, sending, receiving, look, park, copy, clear, wake, enable-look, raise, place-name, ready-from-look, ready-from-place, wait, disable, lower, finish, go, sent, got, chose, Progress, nothing, doing, due, no-task, trigger, wake-up, Work, runs, free, Core, plain, choosing, Channel, State}
+use Rattle.rules.specs.State.{running, queued, asleep, ended, sending, receiving, look, park, copy, clear, wake, enable-look, raise, place-name, ready-from-look, ready-from-place, wait, disable, lower, finish, go, sent, got, chose, Progress, nothing, doing, due, no-task, trigger, wake-up, runs, free, plain, choosing, State}
 use Rattle.rules.specs.Items.{core, place, data-word, alternation, progress, channel-word, transfers}
 use Rattle.rules.specs.Soundness.{valid}
 use Rattle.rules.specs.Examples.Card.{Change, _of_is_, changed, a-core, a-process, a-channel, alternating, core-with, card, runs-with}
@@ -112,17 +112,18 @@ progress-bounds =
     ∷ (two (due (chose 2)) but-not one (due (chose 1)))
     ∷ []
 
+-- core 1 runs process 1
+abbrev pub one-on-core-1 : List Change
+one-on-core-1 = core of 1 is a-core (runs 1) [] 0 false [] ∷ []
+
 -- "each process is in exactly one place: running on one core, once in one queue, asleep, or ended. A running process has nothing in hand
 -- or a stage; a queued or sleeping one has a stage or an outcome; an ended one has nothing in hand." "non-empty batches"
-abbrev pub running-on-both : List Change
-running-on-both = core of 1 is a-core (runs 1) [] 0 false [] ∷ []
-
 abbrev pub place-bounds : List Bound
 place-bounds =
     (runs-with 1 nothing but-not runs-with 1 (due go))
-    ∷ (runs-with 1 (doing (look sending 1)) but-not (runs-with 1 nothing ++ running-on-both))
+    ∷ (runs-with 1 (doing (look sending 1)) but-not (runs-with 1 nothing ++ one-on-core-1))
     ∷ ([] but-not (place of 1 is running ∷ progress of 1 is nothing ∷ []))
-    ∷ ([] but-not (core of 1 is a-core (runs 1) [] 0 false [] ∷ []))
+    ∷ ([] but-not one-on-core-1)
     ∷ ([] but-not (place of 1 is queued ∷ []))
     ∷ ([] but-not (place of 4 is asleep ∷ []))
     ∷ ([] but-not (place of 4 is ended ∷ progress of 4 is nothing ∷ []))
