@@ -16,7 +16,8 @@ use Rattle.rules.specs.Items.{process-of, no-process, put, alternation, progres
 use Rattle.rules.specs.Rule.{Rule, run, becomes, _>>_}
 use Rattle.rules.specs.Steps.{next}
 use Rattle.rules.specs.Choice.{guard, counting, flags, waits, wait-step, disable-next, keep-first, disabled, disable-step, lower-step}
-use Rattle.rules.specs.Packing.{ready-number, progress-words, pack, view, word-numbered, process-at, channel-at}
+use Rattle.rules.specs.Layout.{process-at, channel-at}
+use Rattle.rules.specs.Packing.{ready-number, progress-words, pack, view, word-numbered}
 use Rattle.rules.specs.Soundness.{own-guards, in-list, ready-in-list}
 use Rattle.rules.proofs.Tests.{three}
 use Rattle.words.specs.Meaning.{meaning}

@@ -15,7 +15,8 @@ use Rattle.rules.specs.Items.{core-of, process-of, put, alternation, progress}
 use Rattle.rules.specs.Rule.{Rule, run, done, the, becomes, _>>=_, _>>_}
 use Rattle.rules.specs.Steps.{has-task}
 use Rattle.rules.specs.Choice.{guard, counting, flags, lowered, finished, finish-step, trigger-step}
-use Rattle.rules.specs.Packing.{work-words, ready-number, progress-words, view, process-at}
+use Rattle.rules.specs.Layout.{process-at}
+use Rattle.rules.specs.Packing.{work-words, ready-number, progress-words, view}
 use Rattle.rules.specs.Soundness.{own-end, own-guards, ready-in-list}
 use Rattle.rules.proofs.Tests.{both, three, within-means}
 use Rattle.table.specs.Has.{HasProcess}

@@ -13,7 +13,8 @@ use Rattle.rules.specs.Rule.{Rule, run, becomes, _>>_}
 use Rattle.rules.specs.Steps.{next}
 use Rattle.rules.specs.Choice.{guard, counting, flags, enable-next, after-enable-look, enable-look-step, name-placed, place-name-step, raise-step}
 use Rattle.rules.specs.Choice.{ready-from-look-step, ready-from-place-step}
-use Rattle.rules.specs.Packing.{of-choice, progress-words, pack, view, word-number, process-at, channel-at}
+use Rattle.rules.specs.Layout.{process-at, channel-at}
+use Rattle.rules.specs.Packing.{of-choice, progress-words, pack, view, word-number}
 use Rattle.answers.specs.Four.{four}
 use Rattle.answers.specs.declared.Reply.{Reply}
 use Rattle.parts.specs.Does.{At, Comes, Does}

@@ -9,7 +9,8 @@ use lib.ListN.{set}
 use borrow.Author.Tests.{eqb-true, eqb-false}
 use Rattle.rules.specs.Lists.{if_then_else_, total, tabulate, times, first}
 use Rattle.rules.specs.State.{Core, queues-of}
-use Rattle.rules.specs.Packing.{heads, K-of, N-of, core-at, word-of-core, chain, work-numbered, view-core}
+use Rattle.rules.specs.Layout.{core-at}
+use Rattle.rules.specs.Packing.{heads, K-of, N-of, word-of-core, chain, work-numbered, view-core}
 use Rattle.rules.specs.Soundness.{runs-it}
 use Rattle.rules.proofs.Sums.{head-stands}
 use Rattle.fitting.proofs.Exact.{

@@ -7,7 +7,8 @@ use native.Mathlib.Omega.{arith}
 use lib.Dec.{T, eqb, leb, eqb→eq, leb→le, le→leb, eqb·suc-zero}
 use Rattle.rules.specs.Lists.{if_then_else_, within, bit}
 use Rattle.rules.specs.State.{Wiring}
-use Rattle.rules.specs.Packing.{work-words, core-at, word-of-core, work-numbered}
+use Rattle.rules.specs.Layout.{core-at}
+use Rattle.rules.specs.Packing.{work-words, word-of-core, work-numbered}
 use Rattle.rules.specs.Soundness.{is-process, valid-work}
 use Rattle.rules.proofs.Tests.{both, three, four}
 use Rattle.fitting.proofs.Tests.{equal-holds, within-holds, all-three, all-four, zeros-mean, zeros-hold, bit-means, bit-holds}

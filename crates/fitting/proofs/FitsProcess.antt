@@ -11,7 +11,8 @@ use lib.ListN.{getD}
 use borrow.Author.Tests.{ne-eqb}
 use Rattle.rules.specs.Lists.{within, tabulate}
 use Rattle.rules.specs.State.{Place, running, queued, asleep, ended, wiring}
-use Rattle.rules.specs.Packing.{place-number, progress-words, K-of, N-of, M-of, process-at, word-of-process, place-numbered, view-process, view}
+use Rattle.rules.specs.Layout.{process-at}
+use Rattle.rules.specs.Packing.{place-number, progress-words, K-of, N-of, M-of, word-of-process, place-numbered, view-process, view}
 use Rattle.rules.specs.Soundness.{valid-progress, fits, stands}
 use Rattle.rules.proofs.Tests.{both, together, within-means}
 use Rattle.rules.proofs.Packing.ReadLaws.{state-words}

@@ -12,21 +12,8 @@ use lib.ListN.{length, take}
 use borrow.Author.Tests.{leb-true, leb-false, le-leb}
 use Rattle.rules.specs.Lists.{if_then_else_, within, all, tabulate, member, distinct}
 use Rattle.rules.specs.State.{Place, sending, receiving, Progress, Wiring, wiring}
-use Rattle.rules.specs.Packing.{
-  place-number,
-  ready-number,
-  padded,
-  progress-words,
-  K-of,
-  N-of,
-  M-of,
-  process-at,
-  word-of-process,
-  ready-numbered,
-  progress-numbered,
-  view-process,
-  view,
-}
+use Rattle.rules.specs.Layout.{process-at}
+use Rattle.rules.specs.Packing.{place-number, ready-number, padded, progress-words, K-of, N-of, M-of, word-of-process, ready-numbered, progress-numbered, view-process, view}
 use Rattle.rules.specs.Soundness.{is-process, own-end, own-guards, in-list, ready-in-list, valid-progress, fits}
 use Rattle.rules.proofs.Tabulate.{length-tabulate}
 use Rattle.rules.proofs.Tests.{both, three, five, together, within-means}

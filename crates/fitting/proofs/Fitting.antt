@@ -10,7 +10,8 @@ use lib.Dec.{T, eqb, leb, eqb→eq, le→leb}
 use lib.ListN.{length, getD, replicate, length-replicate, getD-replicate}
 use Rattle.rules.specs.Lists.{if_then_else_, within, all, total, from}
 use Rattle.rules.specs.State.{wiring}
-use Rattle.rules.specs.SetUp.{room, sizes}
+use Rattle.rules.specs.Layout.{room}
+use Rattle.rules.specs.SetUp.{sizes}
 use Rattle.rules.specs.Packing.{K-of, N-of, M-of, word-of-process, view-channel, view}
 use Rattle.rules.specs.Soundness.{valid-channel}
 use Rattle.rules.proofs.Tests.{both, four, three, together, within-means, all-from}

@@ -12,28 +12,8 @@ use Rattle.rules.specs.Lists.{all, total, tabulate, from, times, first, last, b
 use Rattle.rules.specs.State.{Place, running, queued, asleep, ended, Work, runs, free, Core, Process, Channel, queues-of, State, Wiring, wiring}
 use Rattle.rules.specs.Items.{core-of, process-of, no-core, no-channel}
 use Rattle.rules.specs.SetUp.{sizes}
-use Rattle.rules.specs.Packing.{
-  heads,
-  place-number,
-  work-words,
-  progress-words,
-  next-link,
-  head-link,
-  batch-link,
-  header-words,
-  pack,
-  K-of,
-  N-of,
-  M-of,
-  core-at,
-  process-at,
-  word-of-core,
-  word-of-process,
-  view-core,
-  view-process,
-  view-channel,
-  view,
-}
+use Rattle.rules.specs.Layout.{core-at, process-at}
+use Rattle.rules.specs.Packing.{heads, place-number, work-words, progress-words, next-link, head-link, batch-link, header-words, pack, K-of, N-of, M-of, word-of-core, word-of-process, view-core, view-process, view-channel, view}
 use Rattle.rules.specs.Soundness.{
   runs-it,
   valid-progress,

@@ -9,7 +9,8 @@ use lib.Dec.{T, eqb, eqb→eq, eqb·suc-zero}
 use lib.ListN.{length, set}
 use borrow.Author.Tests.{eqb-true}
 use Rattle.rules.specs.Lists.{if_then_else_, within, total, bit, times}
-use Rattle.rules.specs.Packing.{K-of, N-of, process-at, word-of-core, word-of-process, chain}
+use Rattle.rules.specs.Layout.{process-at}
+use Rattle.rules.specs.Packing.{K-of, N-of, word-of-core, word-of-process, chain}
 use Rattle.rules.proofs.Tests.{both, three, together, within-means}
 use Rattle.rules.proofs.Sums.{head-stands}
 use Rattle.fitting.proofs.Tests.{equal-holds, within-holds, all-three}

@@ -7,8 +7,8 @@ use mathlib.Core.List.{List}
 use lib.Dec.{eqb, leb}
 use lib.ListN.{length, getD, set, replicate}
 use Rattle.rules.specs.Lists.{if_then_else_, within}
-use Rattle.rules.specs.SetUp.{room, sizes}
-use Rattle.rules.specs.Packing.{core-at, process-at, channel-at}
+use Rattle.rules.specs.Layout.{room, core-at, process-at, channel-at}
+use Rattle.rules.specs.SetUp.{sizes}
 
 abbrev pub word : List ℕ → ℕ → ℕ
 word t a = getD t a 0

@@ -7,7 +7,8 @@ use native.Mathlib.Omega.{arith}
 use lib.Dec.{T, leb, eqb, leb→le}
 use lib.ListN.{length, getD}
 use borrow.Author.Tests.{eq-eqb, ne-eqb, lt-ltb, le-ltb}
-use Rattle.rules.specs.SetUp.{sizes, room}
+use Rattle.rules.specs.Layout.{room}
+use Rattle.rules.specs.SetUp.{sizes}
 use Rattle.rules.specs.Packing.{K-of}
 use Rattle.fitting.specs.Twin.{word, zeros, header-fits, table-fits}
 use Rattle.fitting.proofs.FitsIsSound.{fits-is-sound}

@@ -12,7 +12,8 @@ use Rattle.rules.specs.Lists.{if_then_else_, within, all, distinct}
 use Rattle.rules.specs.State.{receiving, Stage, doing, Process, Alternation, ChannelWord, State, wiring}
 use Rattle.rules.specs.Items.{process-of, no-process, put, alternation, progress, channel-word}
 use Rattle.rules.specs.Choice.{guard}
-use Rattle.rules.specs.Packing.{ready-number, padded, of-choice, progress-words, pack, view, word-number, process-at, channel-at}
+use Rattle.rules.specs.Layout.{process-at, channel-at}
+use Rattle.rules.specs.Packing.{ready-number, padded, of-choice, progress-words, pack, view, word-number}
 use Rattle.rules.specs.Soundness.{own-end, own-guards}
 use Rattle.packing.proofs.Focus.{writes, below}
 use Rattle.rules.proofs.Packing.Blocks.{second-part}

@@ -5,7 +5,8 @@ use mathlib.Core.Option.{Option}
 use lib.Dec.{eqb, ltb}
 use lib.ListN.{length, getD, set, take}
 use Rattle.rules.specs.Lists.{if_then_else_, tabulate}
-use Rattle.rules.specs.Packing.{process-at, channel-at, ready-numbered}
+use Rattle.rules.specs.Layout.{process-at, channel-at}
+use Rattle.rules.specs.Packing.{ready-numbered}
 use Rattle.table.specs.Has.{HasProcess, HasChannel}
 
 -- the word f of process p, among as many cores

@@ -10,8 +10,7 @@ use lib.ListN.{length, getD, set, length-set, length-append}
 use lib.Seq.{set-append-left}
 use borrow.Author.Tests.{eqb-true, eqb-false, lt-ltb, ne-eqb}
 use Rattle.rules.specs.Lists.{if_then_else_, all}
-use Rattle.rules.specs.SetUp.{room}
-use Rattle.rules.specs.Packing.{core-at, process-at, channel-at}
+use Rattle.rules.specs.Layout.{room, core-at, process-at, channel-at}
 use Rattle.rules.proofs.Tests.{same-test, apart, here-or-there, both}
 use Rattle.rules.proofs.Packing.Regions.{Dims, Words, Holds, Same, getD-set, holds-set, written}
 

@@ -8,7 +8,8 @@ use lib.ListN.{length}
 use Rattle.rules.specs.Lists.{if_then_else_, within, all, total, times, first, last, follows}
 use Rattle.rules.specs.State.{Core, State}
 use Rattle.rules.specs.Items.{core-of, put, core}
-use Rattle.rules.specs.Packing.{heads, if-head, word-at, process-at, core-at, head-link, batch-link, pack}
+use Rattle.rules.specs.Layout.{process-at, core-at}
+use Rattle.rules.specs.Packing.{heads, if-head, word-at, head-link, batch-link, pack}
 use Rattle.packing.specs.Queues.{load-writes, load-table, with-queues, Queued}
 use Rattle.rules.proofs.Packing.ReadLaws.{read-core, read-process}
 use Rattle.rules.proofs.Tests.{here-or-there, both}

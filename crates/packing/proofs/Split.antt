@@ -9,7 +9,8 @@ use borrow.Author.Tests.{eq-eqb}
 use Rattle.rules.specs.Lists.{if_then_else_, total, bit, times, first, last, follows}
 use Rattle.rules.specs.State.{Core, State}
 use Rattle.rules.specs.Items.{core-of, put, core}
-use Rattle.rules.specs.Packing.{heads, if-head, word-at, process-at, core-at, next-link, head-link, batch-link, pack}
+use Rattle.rules.specs.Layout.{process-at, core-at}
+use Rattle.rules.specs.Packing.{heads, if-head, word-at, next-link, head-link, batch-link, pack}
 use Rattle.packing.specs.Queues.{split-writes, split-table, with-queues, Queued}
 use Rattle.rules.proofs.Packing.ReadLaws.{read-core}
 use Rattle.rules.proofs.Tests.{here-or-there}

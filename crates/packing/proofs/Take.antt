@@ -8,7 +8,8 @@ use lib.ListN.{length}
 use Rattle.rules.specs.Lists.{within, all, total, first, last, follows}
 use Rattle.rules.specs.State.{Core, State}
 use Rattle.rules.specs.Items.{core-of, put, core}
-use Rattle.rules.specs.Packing.{word-at, process-at, core-at, next-link, pack}
+use Rattle.rules.specs.Layout.{process-at, core-at}
+use Rattle.rules.specs.Packing.{word-at, next-link, pack}
 use Rattle.packing.specs.Queues.{take-writes, take-table, with-queues, Queued}
 use Rattle.rules.proofs.Packing.ReadLaws.{read-core, read-process}
 use Rattle.rules.proofs.Tests.{here-or-there, both}

@@ -24,23 +24,8 @@ use Rattle.rules.specs.Items.{
   channel-word,
   transfers,
 }
-use Rattle.rules.specs.Packing.{
-  place-number,
-  word-number,
-  heads,
-  if-head,
-  core-at,
-  core-words,
-  progress-words,
-  next-link,
-  head-link,
-  batch-link,
-  process-words,
-  channel-words,
-  pack,
-  process-at,
-  channel-at,
-}
+use Rattle.rules.specs.Layout.{core-at, process-at, channel-at}
+use Rattle.rules.specs.Packing.{place-number, word-number, heads, if-head, core-words, progress-words, next-link, head-link, batch-link, process-words, channel-words, pack}
 use Rattle.rules.proofs.Packing.Regions.{Same}
 use Rattle.rules.proofs.Packing.Blocks.{
   dims,

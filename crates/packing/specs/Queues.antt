@@ -8,7 +8,8 @@ use lib.ListN.{length, set}
 use Rattle.rules.specs.Lists.{if_then_else_, within, all}
 use Rattle.rules.specs.State.{Core, queues-of, State}
 use Rattle.rules.specs.Items.{core-of}
-use Rattle.rules.specs.Packing.{word-at, core-at, process-at}
+use Rattle.rules.specs.Layout.{core-at, process-at}
+use Rattle.rules.specs.Packing.{word-at}
 use Rattle.rules.specs.Soundness.{not-empty, in-queues}
 
 -- Process p is linked behind the last one b by the word g of b; where there is none it is the first, the word f of core k.

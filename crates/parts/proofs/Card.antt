@@ -7,7 +7,7 @@ use lib.Dec.{T, eqb}
 use lib.ListN.{length, length-map}
 use Rattle.rules.specs.State.{Way, Stage, Progress, Work, Channel, State, wiring, end-of}
 use Rattle.rules.specs.Items.{core-of}
-use Rattle.rules.specs.SetUp.{room}
+use Rattle.rules.specs.Layout.{room}
 use Rattle.rules.specs.Packing.{pack, view, K-of, N-of, M-of}
 use Rattle.rules.specs.Lists.{same-words, within}
 use Rattle.rules.specs.Soundness.{own-end, valid-stage, valid-progress, valid-work, valid, sound}

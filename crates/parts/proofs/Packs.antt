@@ -8,7 +8,8 @@ use lib.Dec.{T, lit<}
 use lib.ListN.{length, getD, set, length-set, replicate}
 use Rattle.rules.specs.State.{Place, asleep, Alternation, Progress, nothing, Process, Task, free, ChannelWord, State, wiring}
 use Rattle.rules.specs.Items.{Kind, core, place, data-word, alternation, progress, channel-word, transfers, Val, core-of, process-of, channel-of, put}
-use Rattle.rules.specs.Packing.{pack, view, core-at, process-at, channel-at, place-number, word-number, word-numbered, work-words, progress-words}
+use Rattle.rules.specs.Layout.{core-at, process-at, channel-at}
+use Rattle.rules.specs.Packing.{pack, view, place-number, word-number, word-numbered, work-words, progress-words}
 use Rattle.rules.specs.Steps.{with-work}
 use Rattle.rules.proofs.Laws.Frame.{put-other}
 use Rattle.packing.proofs.Focus.{writes, below}

@@ -6,7 +6,7 @@ use lib.Seq.{sets}
 use lib.Dec.{eqb}
 use Rattle.rules.specs.Lists.{if_then_else_}
 use Rattle.rules.specs.Numbers.{Answer, GO, SENT, GOT, CHOSE}
-use Rattle.rules.specs.Packing.{core-at, process-at}
+use Rattle.rules.specs.Layout.{core-at, process-at}
 
 -- core k runs nothing and has a task, of process q
 abbrev pub task-table : List ℕ → ℕ → ℕ → ℕ → List ℕ

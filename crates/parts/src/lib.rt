@@ -3,7 +3,7 @@ ghost use mathlib.Core.Path.{_≡_};
 ghost use Prim.Native.Nat.{_+_, _*_, _-_, _<_};
 ghost use lib.ListN.{getD, set};
 ghost use Rattle.rules.specs.Numbers.{MOVED, SLEPT, yes-with};
-ghost use Rattle.rules.specs.Packing.{process-at};
+ghost use Rattle.rules.specs.Layout.{process-at};
 ghost use Rattle.answers.specs.Four.{four};
 ghost use Rattle.table.specs.Has.{HasCore, HasProcess};
 ghost use Rattle.parts.specs.Does.{of-way};

@@ -8,7 +8,8 @@ use lib.ListN.{length}
 use Rattle.rules.specs.Lists.{within, times, first}
 use Rattle.rules.specs.State.{State}
 use Rattle.rules.specs.Items.{core-of}
-use Rattle.rules.specs.Packing.{heads, word-at, core-at, pack}
+use Rattle.rules.specs.Layout.{core-at}
+use Rattle.rules.specs.Packing.{heads, word-at, pack}
 use Rattle.packing.specs.Queues.{Queued}
 use Rattle.rules.proofs.Packing.Blocks.{pack-holds}
 use Rattle.rules.proofs.Tests.{within-means, all-times}

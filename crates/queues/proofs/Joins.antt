@@ -4,7 +4,7 @@ use mathlib.Core.List.{List, [], _∷_, _++_}
 use lib.ListN.{length, set, length-set}
 use Rattle.rules.specs.State.{queued, State}
 use Rattle.rules.specs.Items.{put, core-of, core, place}
-use Rattle.rules.specs.Packing.{process-at}
+use Rattle.rules.specs.Layout.{process-at}
 use Rattle.rules.specs.Steps.{with-active}
 use Rattle.packing.specs.Queues.{push-table, Queued}
 use Rattle.packing.proofs.States.{length-set-nth}

@@ -7,7 +7,8 @@ use lib.ListN.{length, set, length-set}
 use Rattle.rules.specs.Lists.{bit}
 use Rattle.rules.specs.State.{running, queued, no-task, runs, free, Core, State}
 use Rattle.rules.specs.Items.{core-of, put, core, place}
-use Rattle.rules.specs.Packing.{core-at, process-at, pack}
+use Rattle.rules.specs.Layout.{core-at, process-at}
+use Rattle.rules.specs.Packing.{pack}
 use Rattle.rules.specs.Steps.{with-active}
 use Rattle.rules.specs.Scheduler.{stored}
 use Rattle.packing.specs.Queues.{push-table, take-table, store-table, split-table, load-table, with-queues, Queued}

@@ -7,7 +7,8 @@ use lib.Dec.{eqb}
 use lib.ListN.{length, set, length-set}
 use lib.Seq.{getD-set-other}
 use Rattle.rules.specs.Lists.{if_then_else_}
-use Rattle.rules.specs.Packing.{word-at, core-at, process-at}
+use Rattle.rules.specs.Layout.{core-at, process-at}
+use Rattle.rules.specs.Packing.{word-at}
 use Rattle.packing.specs.Queues.{link-end, push-table, take-table, store-heads, store-table, split-table, load-table}
 use Rattle.table.specs.Has.{HasCore, HasProcess}
 use Rattle.table.proofs.Has.{has-core, has-process}

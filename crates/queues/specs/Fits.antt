@@ -3,7 +3,8 @@ use Prim.Native.Nat.{ℕ, _≤_, _<_}
 use mathlib.Core.Path.{_≡_}
 use mathlib.Core.List.{List}
 use lib.ListN.{length}
-use Rattle.rules.specs.Packing.{word-at, core-at, process-at}
+use Rattle.rules.specs.Layout.{core-at, process-at}
+use Rattle.rules.specs.Packing.{word-at}
 use Rattle.table.specs.Has.{HasCore, HasProcess}
 
 -- to link behind the last one b, if there is one, by its word g, otherwise by the word f of core k

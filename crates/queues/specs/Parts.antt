@@ -2,7 +2,7 @@
 use Prim.Native.Nat.{ℕ}
 use mathlib.Core.List.{List}
 use lib.ListN.{set}
-use Rattle.rules.specs.Packing.{core-at, process-at}
+use Rattle.rules.specs.Layout.{core-at, process-at}
 
 -- core k's active queue has another first, last and size
 abbrev pub active-table : List ℕ → (k first last size : ℕ) → List ℕ

@@ -3,7 +3,7 @@ ghost use mathlib.Core.Path.{_≡_};
 ghost use lib.ListN.{set};
 ghost use lib.Dec.{eqb};
 ghost use Rattle.rules.specs.Lists.{if_then_else_};
-ghost use Rattle.rules.specs.Packing.{process-at};
+ghost use Rattle.rules.specs.Layout.{process-at};
 ghost use Rattle.packing.specs.Queues.{link-end, push-table, take-table, store-heads, store-table, split-table, load-table};
 ghost use Rattle.table.specs.Has.{HasCore, HasProcess};
 ghost use Rattle.queues.specs.Parts.{active-table, batch-table, alone-table, no-batch-table};

@@ -12,7 +12,8 @@ use Rattle.rules.specs.State.{Way, sending, receiving, Channel, State, Wiring, 
 use Rattle.rules.specs.Items.{no-channel, channel-of}
 use Rattle.rules.specs.Rule.{Rule, Ran, run, _>>_}
 use Rattle.rules.specs.Requests.{unless, proper-end}
-use Rattle.rules.specs.Packing.{view, word-at, channel-at, M-of}
+use Rattle.rules.specs.Layout.{channel-at}
+use Rattle.rules.specs.Packing.{view, word-at, M-of}
 use Rattle.rules.proofs.Tests.{within-means}
 use Rattle.answers.specs.declared.Reply.{Reply}
 use Rattle.parts.specs.Does.{Card, Comes}

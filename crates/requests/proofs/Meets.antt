@@ -12,7 +12,8 @@ use Rattle.rules.specs.State.{Way, sending, receiving, look, enable-look, doing
 use Rattle.rules.specs.Items.{data-word, alternation, progress, put}
 use Rattle.rules.specs.Rule.{Rule, Ran, run, done, write, _>>_}
 use Rattle.rules.specs.Requests.{Request, send, receive, choose, yield, end, request, asks, unless, proper-end, proper-guards, choice-begun}
-use Rattle.rules.specs.Packing.{view, process-at, M-of}
+use Rattle.rules.specs.Layout.{process-at}
+use Rattle.rules.specs.Packing.{view, M-of}
 use Rattle.packing.specs.Queues.{push-table, Queued}
 use Rattle.packing.proofs.States.{length-set-nth}
 use Rattle.packing.proofs.Queued.{queued-put}

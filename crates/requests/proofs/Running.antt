@@ -13,7 +13,8 @@ use Rattle.rules.specs.State.{Progress, nothing, doing, due, Task, no-task, tri
 use Rattle.rules.specs.Items.{core-of, process-of}
 use Rattle.rules.specs.Rule.{Ran, run, refused, _>>=_}
 use Rattle.rules.specs.Requests.{Request, request, requester, nothing-in-hand, asks}
-use Rattle.rules.specs.Packing.{view, work-numbered, progress-numbered, progress-words, word-at, word-of-core, word-of-process, process-at}
+use Rattle.rules.specs.Layout.{process-at}
+use Rattle.rules.specs.Packing.{view, work-numbered, progress-numbered, progress-words, word-at, word-of-core, word-of-process}
 use Rattle.rules.proofs.Tests.{within-means}
 use Rattle.parts.specs.Does.{Card}
 use Rattle.parts.proofs.Card.{card-core, card-process, work-valid, N-is}

@@ -7,7 +7,8 @@ use lib.ListN.{length, set}
 use lib.Seq.{sets}
 use Rattle.rules.specs.State.{Way, sending, receiving, look, enable-look, nothing, doing, due, go, State}
 use Rattle.rules.specs.Items.{process-of, put, alternation, progress}
-use Rattle.rules.specs.Packing.{padded, progress-words, process-at}
+use Rattle.rules.specs.Layout.{process-at}
+use Rattle.rules.specs.Packing.{padded, progress-words}
 use Rattle.rules.specs.Requests.{choice-begun}
 use Rattle.packing.proofs.Focus.{writes}
 use Rattle.parts.specs.Does.{of-way}

@@ -6,7 +6,8 @@ use lib.Dec.{eqb}
 use lib.ListN.{length, set}
 use lib.Seq.{sets}
 use Rattle.rules.specs.Lists.{if_then_else_, within, member}
-use Rattle.rules.specs.Packing.{word-at, core-at, process-at, channel-at}
+use Rattle.rules.specs.Layout.{core-at, process-at, channel-at}
+use Rattle.rules.specs.Packing.{word-at}
 use Rattle.answers.specs.declared.Reply.{Reply}
 use Rattle.table.specs.Has.{HasCore, HasProcess}
 

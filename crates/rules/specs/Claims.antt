@@ -12,8 +12,8 @@ use Rattle.rules.specs.Numbers.{Answer, BUILT, TAKEN, MOVED, SLEPT, IDLE
 use Rattle.rules.specs.State.{Way, copy, doing, no-task, runs, free, Core, State, wiring}
 use Rattle.rules.specs.Items.{progress, transfers, Item, core-of, get}
 use Rattle.rules.specs.Requests.{send, receive, choose, yield, end}
-use Rattle.rules.specs.SetUp.{room}
-use Rattle.rules.specs.Packing.{heads, pack, word-at, word-of-core, word-of-process, core-task, core-task-process, core-first, core-last, core-size, core-first-head, core-last-head, process-next, process-last, process-size, process-next-head, view}
+use Rattle.rules.specs.Layout.{room, core-task, core-task-process, core-first, core-last, core-size, core-first-head, core-last-head, process-next, process-last, process-size, process-next-head}
+use Rattle.rules.specs.Packing.{heads, pack, word-at, word-of-core, word-of-process, view}
 use Rattle.rules.specs.UsedWords.{used-words}
 use Rattle.rules.specs.Soundness.{word32, is-process, in-queues, valid, sound}
 use Rattle.rules.specs.Calls.{Result, Ask, the-step, a-request, call, step-call, send-call, receive-call, choose-call, yield-call, end-call, Built, set-up-call}

@@ -7,6 +7,7 @@ pub mod Steps
 pub mod Choice
 pub mod Scheduler
 pub mod Requests
+pub mod Layout
 pub mod SetUp
 pub mod Packing
 pub mod UsedWords

@@ -1,20 +1,21 @@
--- The packing (docs/PACKING.md): each state as a table of T = 8 + 16K + 24N + 4M words, and a state read out of any table.
+-- The packing (docs/PACKING.md): each state as a table of T words (Layout.antt says where each lies), and a state read out of any table.
 use Prim.Native.Nat.{ℕ, zero, suc, _+_, _*_, _-_, _/_, _%_}
 use mathlib.Core.List.{List, [], _∷_, _++_, map, flatMap}
 use mathlib.Core.Option.{Option, none, some}
 use lib.Dec.{eqb}
-use lib.ListN.{length, getD, take}
+use lib.ListN.{length, getD, take, replicate}
 use Rattle.rules.specs.Lists.{if_then_else_, nth, total, tabulate, from, bit, first, last, follows}
 use Rattle.rules.specs.State.{Place, running, queued, asleep, ended, sending, receiving, look, park, copy, clear, wake, enable-look, raise, place-name, ready-from-look, ready-from-place, wait, disable, lower, finish, go, sent, got, chose, Progress, nothing, doing, due, Process, no-task, trigger, wake-up, Work, runs, free, Core, queues-of, ChannelWord, nobody, plain, choosing, Channel, State}
 use Rattle.rules.specs.Items.{core-of, process-of, channel-of}
+use Rattle.rules.specs.Layout.{header-size, core-stride, process-stride, channel-stride, core-at, process-at, channel-at, header-cores, header-processes, header-channels, header-spare, core-runs, core-task, core-task-process, core-first, core-dispatch, core-mark, core-first-head, core-spare, process-place, process-data, process-enabling, process-not-ready, process-waiting, process-count, process-progress, process-channel, process-partner, process-guards, process-index, process-first-ready, process-first-guard, process-next, process-next-head, process-spare, place-running, place-queued, place-asleep, place-ended, task-none, task-trigger, task-wake, at-nothing, at-send-look, at-send-park, at-send-copy, at-send-clear, at-send-wake, at-receive-look, at-receive-park, at-receive-copy, at-receive-clear, at-receive-wake, at-enable-look, at-raise, at-place-name, at-ready-from-look, at-ready-from-place, at-wait, at-disable, at-lower, at-finish, due-go, due-sent, due-got, due-chose, guard-places, channel-writer, channel-reader, channel-holder, channel-transfers, channel-spare}
 
 -- The numbers of the packing
 
 abbrev pub place-number : Place → ℕ
-place-number running = 1
-place-number queued = 2
-place-number asleep = 3
-place-number ended = 4
+place-number running = place-running
+place-number queued = place-queued
+place-number asleep = place-asleep
+place-number ended = place-ended
 
 -- "The channel word is 0 for nobody, otherwise twice the process number, with the lowest bit set when that process is choosing."
 abbrev pub word-number : ChannelWord → ℕ
@@ -29,23 +30,27 @@ ready-number (some i) = i
 
 -- Core: running process, task, the task's process
 abbrev pub work-words : Work → List ℕ
-work-words (runs p) = p ∷ 0 ∷ 0 ∷ []
-work-words (free no-task) = 0 ∷ 0 ∷ 0 ∷ []
-work-words (free (trigger q)) = 0 ∷ 1 ∷ q ∷ []
-work-words (free (wake-up q)) = 0 ∷ 2 ∷ q ∷ []
+work-words (runs p) = p ∷ task-none ∷ 0 ∷ []
+work-words (free no-task) = 0 ∷ task-none ∷ 0 ∷ []
+work-words (free (trigger q)) = 0 ∷ task-trigger ∷ q ∷ []
+work-words (free (wake-up q)) = 0 ∷ task-wake ∷ q ∷ []
 
 -- the first process of each batch, its head
 abbrev pub heads : List (List ℕ) → List ℕ
 heads batches = map first batches
 
+-- what is left of a record: zeros, from the word f to its end
+abbrev pub spare : (stride f : ℕ) → List ℕ
+spare stride f = replicate (stride - f) 0
+
 -- (`unfoldable` is for the prover, as `abbrev` is: it reads what is defined as what it stands for only where a proof says so.)
--- A core's 16 words: its work; the active queue's first, last and size; dispatch count; mark; heads of the first and the last batch.
+-- A core's words: its work; the active queue's first, last and size; dispatch count; mark; heads of the first and the last batch.
 unfoldable pub core-words : Core → List ℕ
 core-words c =
     work-words (c .work)
     ++ (first (c .active) ∷ last (c .active) ∷ length (c .active)
     ∷ c .dispatch ∷ bit (c .mark) ∷ first (heads (c .run-queue)) ∷ last (heads (c .run-queue))
-    ∷ 0 ∷ 0 ∷ 0 ∷ 0 ∷ 0 ∷ 0 ∷ [])
+    ∷ spare core-stride core-spare)
 
 -- exactly n words: the list, then zeros
 abbrev pub padded : ℕ → List ℕ → List ℕ
@@ -53,9 +58,9 @@ padded zero l = []
 padded (suc n) [] = 0 ∷ padded n []
 padded (suc n) (x ∷ xs) = x ∷ padded n xs
 
--- A progress's 14 words: its number, channel, partner, number of guards, guard index, first ready guard, and the 8 guards.
+-- A progress's words: its number, channel, partner, number of guards, guard index, first ready guard, and the guards.
 abbrev pub request-words : ℕ → ℕ → ℕ → List ℕ → ℕ → Option ℕ → List ℕ
-request-words number c q gs i r = number ∷ c ∷ q ∷ length gs ∷ i ∷ ready-number r ∷ padded 8 gs
+request-words number c q gs i r = number ∷ c ∷ q ∷ length gs ∷ i ∷ ready-number r ∷ padded guard-places gs
 
 abbrev pub of-channel : ℕ → ℕ → ℕ → List ℕ
 of-channel number c q = request-words number c q [] 0 none
@@ -64,30 +69,30 @@ abbrev pub of-choice : ℕ → List ℕ → ℕ → Option ℕ → List ℕ
 of-choice number gs i r = request-words number 0 0 gs i r
 
 unfoldable pub progress-words : Progress → List ℕ
-progress-words nothing = of-channel 0 0 0
-progress-words (doing (look sending c)) = of-channel 1 c 0
-progress-words (doing (park sending c)) = of-channel 2 c 0
-progress-words (doing (copy sending c q)) = of-channel 3 c q
-progress-words (doing (clear sending c q)) = of-channel 4 c q
-progress-words (doing (wake sending c q)) = of-channel 5 c q
-progress-words (doing (look receiving c)) = of-channel 6 c 0
-progress-words (doing (park receiving c)) = of-channel 7 c 0
-progress-words (doing (copy receiving c q)) = of-channel 8 c q
-progress-words (doing (clear receiving c q)) = of-channel 9 c q
-progress-words (doing (wake receiving c q)) = of-channel 10 c q
-progress-words (doing (enable-look gs i)) = of-choice 11 gs i none
-progress-words (doing (raise gs i)) = of-choice 12 gs i none
-progress-words (doing (place-name gs i)) = of-choice 13 gs i none
-progress-words (doing (ready-from-look gs i)) = of-choice 14 gs i none
-progress-words (doing (ready-from-place gs i)) = of-choice 15 gs i none
-progress-words (doing (wait gs)) = of-choice 16 gs 0 none
-progress-words (doing (disable gs i r)) = of-choice 17 gs i r
-progress-words (doing (lower gs i r)) = of-choice 18 gs i r
-progress-words (doing (finish gs r)) = of-choice 19 gs 0 r
-progress-words (due go) = of-channel 20 0 0
-progress-words (due (sent c)) = of-channel 21 c 0
-progress-words (due (got c)) = of-channel 22 c 0
-progress-words (due (chose c)) = of-channel 23 c 0
+progress-words nothing = of-channel at-nothing 0 0
+progress-words (doing (look sending c)) = of-channel at-send-look c 0
+progress-words (doing (park sending c)) = of-channel at-send-park c 0
+progress-words (doing (copy sending c q)) = of-channel at-send-copy c q
+progress-words (doing (clear sending c q)) = of-channel at-send-clear c q
+progress-words (doing (wake sending c q)) = of-channel at-send-wake c q
+progress-words (doing (look receiving c)) = of-channel at-receive-look c 0
+progress-words (doing (park receiving c)) = of-channel at-receive-park c 0
+progress-words (doing (copy receiving c q)) = of-channel at-receive-copy c q
+progress-words (doing (clear receiving c q)) = of-channel at-receive-clear c q
+progress-words (doing (wake receiving c q)) = of-channel at-receive-wake c q
+progress-words (doing (enable-look gs i)) = of-choice at-enable-look gs i none
+progress-words (doing (raise gs i)) = of-choice at-raise gs i none
+progress-words (doing (place-name gs i)) = of-choice at-place-name gs i none
+progress-words (doing (ready-from-look gs i)) = of-choice at-ready-from-look gs i none
+progress-words (doing (ready-from-place gs i)) = of-choice at-ready-from-place gs i none
+progress-words (doing (wait gs)) = of-choice at-wait gs 0 none
+progress-words (doing (disable gs i r)) = of-choice at-disable gs i r
+progress-words (doing (lower gs i r)) = of-choice at-lower gs i r
+progress-words (doing (finish gs r)) = of-choice at-finish gs 0 r
+progress-words (due go) = of-channel due-go 0 0
+progress-words (due (sent c)) = of-channel due-sent c 0
+progress-words (due (got c)) = of-channel due-got c 0
+progress-words (due (chose c)) = of-channel due-chose c 0
 
 -- The queues as chains. In a sound table p stands in at most one queue, and the sums below have at most one term that isn't 0.
 -- p's next: who follows p in its queue
@@ -105,21 +110,21 @@ head-link f s p = total (λ (c : Core). total (if-head f p) (c .run-queue)) (s .
 unfoldable pub batch-link : State → ℕ → ℕ
 batch-link s p = total (λ (c : Core). follows p (heads (c .run-queue))) (s .cores)
 
--- A process's 24 words: place; data; alternation state; progress; next, and for a batch's head its last, its size and the next head.
+-- A process's words: place; data; alternation state; progress; next, and for a batch's head its last, its size and the next head.
 unfoldable pub process-words : State → ℕ → List ℕ
 process-words s p =
     let r = process-of s p in
     place-number (r .place) ∷ r .data-word
     ∷ bit (r .alternation .enabling) ∷ bit (r .alternation .not-ready) ∷ bit (r .alternation .waiting) ∷ r .alternation .count
     ∷ progress-words (r .progress)
-    ++ (next-link s p ∷ head-link last s p ∷ head-link length s p ∷ batch-link s p ∷ [])
+    ++ (next-link s p ∷ head-link last s p ∷ head-link length s p ∷ batch-link s p ∷ spare process-stride process-spare)
 
--- A channel's 4 words.
+-- A channel's words.
 unfoldable pub channel-words : Channel → List ℕ
-channel-words c = c .ends .writer ∷ c .ends .reader ∷ word-number (c .word) ∷ c .transfers ∷ []
+channel-words c = c .ends .writer ∷ c .ends .reader ∷ word-number (c .word) ∷ c .transfers ∷ spare channel-stride channel-spare
 
 unfoldable pub header-words : State → List ℕ
-header-words s = length (s .cores) ∷ length (s .processes) ∷ length (s .channels) ∷ 0 ∷ 0 ∷ 0 ∷ 0 ∷ 0 ∷ []
+header-words s = length (s .cores) ∷ length (s .processes) ∷ length (s .channels) ∷ spare header-size header-spare
 
 -- The table: header, cores, processes, channels.
 unfoldable pub pack : State → List ℕ
@@ -136,24 +141,15 @@ word-at t a = getD t a 0
 
 -- the header's K, N and M
 abbrev pub K-of : List ℕ → ℕ
-K-of t = word-at t 0
+K-of t = word-at t header-cores
 
 abbrev pub N-of : List ℕ → ℕ
-N-of t = word-at t 1
+N-of t = word-at t header-processes
 
 abbrev pub M-of : List ℕ → ℕ
-M-of t = word-at t 2
+M-of t = word-at t header-channels
 
--- the word f of core j, of process p, of channel c, among k cores and n processes
-abbrev pub core-at : ℕ → ℕ → ℕ
-core-at j f = 8 + 16 * j + f
-
-abbrev pub process-at : ℕ → ℕ → ℕ → ℕ
-process-at k p f = 8 + 16 * k + 24 * (p - 1) + f
-
-abbrev pub channel-at : ℕ → ℕ → ℕ → ℕ → ℕ
-channel-at k n c f = 8 + 16 * k + 24 * n + 4 * (c - 1) + f
-
+-- the word f of core j, of process p, of channel c
 abbrev pub word-of-core : List ℕ → ℕ → ℕ → ℕ
 word-of-core t j f = word-at t (core-at j f)
 
@@ -196,100 +192,6 @@ chain link zero p = []
 chain link (suc n) zero = []
 chain link (suc n) (suc p) = suc p ∷ chain link n (link (suc p))
 
--- The words of a core, a process and a channel by name (docs/PACKING.md).
-abbrev pub core-runs : ℕ
-core-runs = 0
-
-abbrev pub core-task : ℕ
-core-task = 1
-
-abbrev pub core-task-process : ℕ
-core-task-process = 2
-
-abbrev pub core-first : ℕ
-core-first = 3
-
-abbrev pub core-last : ℕ
-core-last = 4
-
-abbrev pub core-size : ℕ
-core-size = 5
-
-abbrev pub core-dispatch : ℕ
-core-dispatch = 6
-
-abbrev pub core-mark : ℕ
-core-mark = 7
-
-abbrev pub core-first-head : ℕ
-core-first-head = 8
-
-abbrev pub core-last-head : ℕ
-core-last-head = 9
-
-abbrev pub process-place : ℕ
-process-place = 0
-
-abbrev pub process-data : ℕ
-process-data = 1
-
-abbrev pub process-enabling : ℕ
-process-enabling = 2
-
-abbrev pub process-not-ready : ℕ
-process-not-ready = 3
-
-abbrev pub process-waiting : ℕ
-process-waiting = 4
-
-abbrev pub process-count : ℕ
-process-count = 5
-
-abbrev pub process-progress : ℕ
-process-progress = 6
-
-abbrev pub process-channel : ℕ
-process-channel = 7
-
-abbrev pub process-partner : ℕ
-process-partner = 8
-
-abbrev pub process-guards : ℕ
-process-guards = 9
-
-abbrev pub process-index : ℕ
-process-index = 10
-
-abbrev pub process-first-ready : ℕ
-process-first-ready = 11
-
-abbrev pub process-first-guard : ℕ
-process-first-guard = 12
-
-abbrev pub process-next : ℕ
-process-next = 20
-
-abbrev pub process-last : ℕ
-process-last = 21
-
-abbrev pub process-size : ℕ
-process-size = 22
-
-abbrev pub process-next-head : ℕ
-process-next-head = 23
-
-abbrev pub channel-writer : ℕ
-channel-writer = 0
-
-abbrev pub channel-reader : ℕ
-channel-reader = 1
-
-abbrev pub channel-holder : ℕ
-channel-holder = 2
-
-abbrev pub channel-transfers : ℕ
-channel-transfers = 3
-
 unfoldable pub view-core : List ℕ → ℕ → Core
 view-core t j =
     let w = word-of-core t j in
@@ -305,7 +207,7 @@ view-core t j =
 unfoldable pub view-process : List ℕ → ℕ → Process
 view-process t p =
     let w = word-of-process t p in
-    let guards = take (w process-guards) (tabulate w process-first-guard 8) in
+    let guards = take (w process-guards) (tabulate w process-first-guard guard-places) in
     record {
       place = place-numbered (w process-place);
       data-word = w process-data;

@@ -60,6 +60,7 @@ use Rattle.rules.specs.State.{
 }
 use Rattle.rules.specs.Items.{core-of, process-of, channel-of}
 use Rattle.rules.specs.Requests.{Request, send, receive, choose, yield, end}
+use Rattle.rules.specs.Layout.{room}
 use Rattle.rules.specs.Packing.{view}
 use Rattle.rules.specs.Soundness.{sound}
 use Rattle.rules.specs.Calls.{Ask, the-step, a-request}
@@ -92,7 +93,7 @@ abbrev pub set-up-cases : (k n m : ℕ) (pairs table : List ℕ) → List Case
 set-up-cases k n m pairs table =
     SIZE when (outside 1 8 k || outside 1 256 n || outside 0 256 m)
     ∷ PAIRS when not (eqb (length pairs) (2 * m))
-    ∷ ROOM when not (eqb (length table) (8 + 16 * k + 24 * n + 4 * m))
+    ∷ ROOM when not (eqb (length table) (room k n m))
     ∷ pair-cases n pairs
 
 -- Requests

@@ -9,10 +9,7 @@ use Rattle.rules.specs.Lists.{if_then_else_, within, tabulate, from}
 use Rattle.rules.specs.Numbers.{Refusal, SIZE, PAIRS, ROOM, NAME, SELF}
 use Rattle.rules.specs.State.{queued, go, due, Process, free, no-task, Core, Ends, nobody, Channel, State}
 use Rattle.rules.specs.Items.{no-alternation}
-
--- "The table has exactly T = 8 + 16K + 24N + 4M words."
-abbrev pub room : ℕ → ℕ → ℕ → ℕ
-room k n m = 8 + 16 * k + 24 * n + 4 * m
+use Rattle.rules.specs.Layout.{room}
 
 -- "K 1 to 8, N 1 to 256, M 0 to 256"
 abbrev pub sizes : ℕ → ℕ → ℕ → Bool

@@ -4,7 +4,7 @@ use mathlib.Core.List.{List, [], _∷_}
 use lib.ListN.{length}
 use Rattle.rules.specs.Lists.{from}
 use Rattle.rules.specs.State.{look, park, copy, clear, wake, enable-look, raise, place-name, ready-from-look, ready-from-place, wait, disable, lower, finish, go, sent, got, chose, Progress, nothing, doing, due}
-use Rattle.rules.specs.Packing.{process-channel, process-partner, process-guards, process-index, process-first-ready, process-first-guard}
+use Rattle.rules.specs.Layout.{process-channel, process-partner, process-guards, process-index, process-first-ready, process-first-guard}
 
 -- "guards": how many there are, and a word for each
 abbrev pub guards-used : List ℕ → List ℕ

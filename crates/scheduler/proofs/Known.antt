@@ -7,7 +7,8 @@ use lib.ListN.{length, getD}
 use Rattle.rules.specs.Lists.{first}
 use Rattle.rules.specs.State.{Task}
 use Rattle.rules.specs.Items.{core-of}
-use Rattle.rules.specs.Packing.{view, word-at, core-at}
+use Rattle.rules.specs.Layout.{core-at}
+use Rattle.rules.specs.Packing.{view, word-at}
 use Rattle.packing.specs.Queues.{Queued}
 use Rattle.rules.proofs.Packing.ReadLaws.{core-list}
 use Rattle.table.specs.Has.{HasCore}

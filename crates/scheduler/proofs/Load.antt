@@ -11,7 +11,8 @@ use Rattle.rules.specs.Numbers.{MOVED, IDLE, yes-with}
 use Rattle.rules.specs.State.{Core, no-task}
 use Rattle.rules.specs.Items.{core-of, core, put, no-core}
 use Rattle.rules.specs.Scheduler.{step}
-use Rattle.rules.specs.Packing.{pack, view, heads, word-at, core-at}
+use Rattle.rules.specs.Layout.{core-at}
+use Rattle.rules.specs.Packing.{pack, view, heads, word-at}
 use Rattle.rules.specs.Soundness.{not-empty}
 use Rattle.packing.specs.Queues.{load-table, with-queues}
 use Rattle.rules.proofs.Tests.{both, within-means}

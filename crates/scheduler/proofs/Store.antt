@@ -9,7 +9,8 @@ use lib.ListN.{length}
 use Rattle.rules.specs.Numbers.{MOVED, yes-with}
 use Rattle.rules.specs.Items.{core-of, core, put}
 use Rattle.rules.specs.Scheduler.{step}
-use Rattle.rules.specs.Packing.{pack, view, word-at, core-at}
+use Rattle.rules.specs.Layout.{core-at}
+use Rattle.rules.specs.Packing.{pack, view, word-at}
 use Rattle.packing.specs.Queues.{store-table, split-table}
 use Rattle.answers.specs.Four.{four}
 use Rattle.answers.specs.declared.Reply.{Reply}

@@ -10,7 +10,8 @@ use Rattle.rules.specs.State.{running, sending, receiving, Stage, look, park, c
 use Rattle.rules.specs.Items.{core-of, process-of, core, place, put}
 use Rattle.rules.specs.Rule.{run}
 use Rattle.rules.specs.Scheduler.{taken, step}
-use Rattle.rules.specs.Packing.{view, word-at, core-at, process-at, progress-words}
+use Rattle.rules.specs.Layout.{core-at, process-at}
+use Rattle.rules.specs.Packing.{view, word-at, progress-words}
 use Rattle.packing.proofs.States.{length-set-nth}
 use Rattle.packing.proofs.Links.{Stands}
 use Rattle.packing.proofs.Standing.{first-stands}

@@ -5,7 +5,8 @@ use mathlib.Core.List.{List}
 use lib.ListN.{set}
 use Rattle.rules.specs.State.{Task, no-task, free}
 use Rattle.rules.specs.Items.{core-of}
-use Rattle.rules.specs.Packing.{view, word-at, core-at, process-at}
+use Rattle.rules.specs.Layout.{core-at, process-at}
+use Rattle.rules.specs.Packing.{view, word-at}
 use Rattle.packing.specs.Queues.{take-table, load-table}
 use Rattle.parts.specs.Does.{Card}
 

@@ -24,7 +24,8 @@ use Rattle.rules.specs.Numbers.{
   TWICE,
   FAULT,
 }
-use Rattle.rules.specs.SetUp.{room, sizes, set-up-refusal, set-up-state}
+use Rattle.rules.specs.Layout.{room}
+use Rattle.rules.specs.SetUp.{sizes, set-up-refusal, set-up-state}
 use Rattle.rules.specs.Packing.{pack}
 use Rattle.rules.specs.Calls.{built, set-up-call}
 use Rattle.rules.proofs.Tests.{tests}

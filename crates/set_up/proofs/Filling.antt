@@ -11,8 +11,9 @@ use borrow.Author.Tests.{lt-ltb, le-ltb, ltb-true, ltb-false}
 use Rattle.rules.specs.Lists.{if_then_else_}
 use Rattle.rules.specs.State.{State}
 use Rattle.rules.specs.Items.{core-of, channel-of}
-use Rattle.rules.specs.SetUp.{room, ends-of, new-core, new-process, new-channel, set-up-state}
-use Rattle.rules.specs.Packing.{header-words, core-words, process-words, channel-words, pack, core-at, process-at, channel-at}
+use Rattle.rules.specs.Layout.{room, core-at, process-at, channel-at}
+use Rattle.rules.specs.SetUp.{ends-of, new-core, new-process, new-channel, set-up-state}
+use Rattle.rules.specs.Packing.{header-words, core-words, process-words, channel-words, pack}
 use Rattle.rules.proofs.Tests.{here-or-there}
 use Rattle.rules.proofs.Packing.Regions.{Dims, Words, Holds, Same, held-once}
 use Rattle.rules.proofs.Packing.Blocks.{dims, words-of, pack-holds, first-part, second-part}

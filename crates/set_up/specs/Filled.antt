@@ -9,8 +9,7 @@ use lib.ListN.{length, getD, set, replicate}
 use lib.Seq.{sets}
 use Rattle.rules.specs.Lists.{if_then_else_, within}
 use Rattle.rules.specs.Numbers.{Refusal, NAME, SELF, no-because, number-of}
-use Rattle.rules.specs.SetUp.{room}
-use Rattle.rules.specs.Packing.{core-at, process-at, channel-at}
+use Rattle.rules.specs.Layout.{room, core-at, process-at, channel-at}
 
 -- the number of a refusal; 0 where there is none
 abbrev pub flaw-number : Option Refusal → ℕ

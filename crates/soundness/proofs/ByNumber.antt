@@ -9,7 +9,7 @@ use native.Mathlib.Omega.{arith}
 use lib.Dec.{eqb, leb}
 use borrow.Author.Tests.{le-leb, ne-eqb}
 use Rattle.rules.specs.Lists.{within}
-use Rattle.rules.specs.Packing.{process-at}
+use Rattle.rules.specs.Layout.{process-at}
 use Rattle.fitting.specs.Twin.{word, zeros, is-sender, is-receiver, has-partner, has-guards, has-index, has-ready, channel-part, guards-part, progress-fits}
 use Rattle.soundness.specs.Parts.{partner-part, index-part, ready-part, exchange-fits, guards-stand, choice-fits}
 use Rattle.soundness.proofs.Tests.{decide, within-true}

@@ -6,7 +6,7 @@ use mathlib.Core.List.{List}
 use lib.Dec.{leb}
 use lib.ListN.{getD}
 use borrow.Author.Tests.{le-leb, lt-leb}
-use Rattle.rules.specs.Packing.{process-at}
+use Rattle.rules.specs.Layout.{process-at}
 use Rattle.fitting.specs.Twin.{word, zeros, channel-part, progress-fits, place-fits, meeting-fits, process-fits}
 use Rattle.soundness.specs.Parts.{flags-fit, partner-part, exchange-fits}
 

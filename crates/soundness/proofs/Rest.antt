@@ -10,7 +10,7 @@ use lib.Dec.{eqb, leb}
 use lib.ListN.{length, set, replicate, length-set}
 use borrow.Author.Tests.{eq-eqb, ne-eqb, eqb-false, le-leb, leb-true}
 use Rattle.rules.specs.Lists.{if_then_else_, within, bit}
-use Rattle.rules.specs.Packing.{core-at, process-at}
+use Rattle.rules.specs.Layout.{core-at, process-at}
 use Rattle.fitting.specs.Twin.{
   word,
   core-fits,

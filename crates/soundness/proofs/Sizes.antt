@@ -6,7 +6,8 @@ use mathlib.Core.List.{List}
 use lib.Dec.{eqb, leb}
 use lib.ListN.{length}
 use borrow.Author.Tests.{leb-true, eqb-true}
-use Rattle.rules.specs.SetUp.{sizes, room}
+use Rattle.rules.specs.Layout.{room}
+use Rattle.rules.specs.SetUp.{sizes}
 use Rattle.fitting.specs.Twin.{word, header-fits, table-fits}
 use Rattle.soundness.specs.Parts.{parts-fit}
 use Rattle.soundness.proofs.Tests.{first-true, second-true, Limits, limits}

@@ -9,7 +9,7 @@ use lib.Dec.{eqb}
 use lib.ListN.{length, set, length-set}
 use borrow.Author.Tests.{eqb-true}
 use Rattle.rules.specs.Lists.{within}
-use Rattle.rules.specs.Packing.{core-at, process-at}
+use Rattle.rules.specs.Layout.{core-at, process-at}
 use Rattle.fitting.specs.Twin.{word, fresh, Walk, flaw, well, and-then, chain-walk, batch-walk}
 use Rattle.soundness.specs.Queues.{stand-at}
 use Rattle.soundness.specs.Parts.{outcome}

@@ -7,7 +7,7 @@ use native.Mathlib.Omega.{arith}
 use native.Mathlib.Nat.{zero-add, add-zero}
 use native.Mathlib.Numerals.{add-one}
 use lib.Dec.{eqb}
-use Rattle.rules.specs.Packing.{process-at}
+use Rattle.rules.specs.Layout.{process-at}
 use Rattle.fitting.specs.Twin.{word, zeros}
 use Rattle.soundness.proofs.Runs.{stops, over}
 

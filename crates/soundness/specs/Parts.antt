@@ -5,7 +5,7 @@ use mathlib.Core.List.{List}
 use lib.Dec.{eqb, leb}
 use lib.ListN.{replicate}
 use Rattle.rules.specs.Lists.{if_then_else_, within}
-use Rattle.rules.specs.Packing.{process-at}
+use Rattle.rules.specs.Layout.{process-at}
 use Rattle.fitting.specs.Twin.{
   word,
   zeros,

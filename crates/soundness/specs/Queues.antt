@@ -5,7 +5,7 @@ use mathlib.Core.List.{List}
 use lib.Dec.{eqb, leb}
 use lib.ListN.{set}
 use Rattle.rules.specs.Lists.{if_then_else_}
-use Rattle.rules.specs.Packing.{core-at, process-at}
+use Rattle.rules.specs.Layout.{core-at, process-at}
 use Rattle.fitting.specs.Twin.{word}
 
 abbrev pub first-of : List ℕ → ℕ → ℕ → ℕ

@@ -2,8 +2,7 @@
 ghost use mathlib.Core.Path.{_≡_};
 ghost use Prim.Native.Nat.{_<_, _≤_};
 ghost use lib.ListN.{length};
-ghost use Rattle.rules.specs.SetUp.{room};
-ghost use Rattle.rules.specs.Packing.{channel-at};
+ghost use Rattle.rules.specs.Layout.{room, channel-at};
 ghost use Rattle.fitting.specs.Twin.{channel-fits, channels-fit};
 use crate::read;
 

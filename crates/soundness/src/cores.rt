@@ -2,7 +2,7 @@
 ghost use mathlib.Core.Path.{_≡_};
 ghost use Prim.Native.Nat.{_+_, _<_};
 ghost use lib.ListN.{length};
-ghost use Rattle.rules.specs.Packing.{core-at, process-at};
+ghost use Rattle.rules.specs.Layout.{core-at, process-at};
 ghost use Rattle.fitting.specs.Twin.{core-fits};
 ghost use Rattle.soundness.specs.Queues.{first-of, stand-at, next-head, next-fits, queue-ends};
 ghost use Rattle.soundness.specs.Parts.{work-fits};

@@ -1,7 +1,8 @@
 // The header.
 ghost use mathlib.Core.Path.{_≡_};
 ghost use Prim.Native.Nat.{_≤_};
-ghost use Rattle.rules.specs.SetUp.{sizes, room};
+ghost use Rattle.rules.specs.Layout.{room};
+ghost use Rattle.rules.specs.SetUp.{sizes};
 ghost use Rattle.fitting.specs.Twin.{header-fits};
 use crate::read;
 

@@ -2,7 +2,7 @@
 ghost use mathlib.Core.Path.{_≡_};
 ghost use Prim.Native.Nat.{_≤_};
 ghost use lib.ListN.{length};
-ghost use Rattle.rules.specs.SetUp.{room};
+ghost use Rattle.rules.specs.Layout.{room};
 ghost use Rattle.fitting.specs.Twin.{well, rest-fits, table-fits};
 ghost use Rattle.soundness.specs.Parts.{parts-fit};
 

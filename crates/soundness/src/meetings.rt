@@ -3,7 +3,7 @@ ghost use mathlib.Core.Path.{_≡_};
 ghost use Prim.Native.Nat.{_<_, _≤_};
 ghost use lib.ListN.{length, set};
 ghost use Rattle.rules.specs.Lists.{if_then_else_};
-ghost use Rattle.rules.specs.Packing.{core-at};
+ghost use Rattle.rules.specs.Layout.{core-at};
 ghost use Rattle.fitting.specs.Twin.{fresh};
 ghost use Rattle.soundness.specs.Queues.{marked};
 ghost use Rattle.soundness.specs.Parts.{outcome, core-enters};

@@ -2,8 +2,7 @@
 ghost use mathlib.Core.Path.{_≡_};
 ghost use Prim.Native.Nat.{_<_, _≤_};
 ghost use lib.ListN.{length};
-ghost use Rattle.rules.specs.SetUp.{room};
-ghost use Rattle.rules.specs.Packing.{process-at};
+ghost use Rattle.rules.specs.Layout.{room, process-at};
 ghost use Rattle.soundness.specs.Parts.{flags-fit};
 ghost use Rattle.fitting.specs.Twin.{place-fits, meeting-fits, process-fits, processes-fit};
 use crate::progress;

@@ -2,8 +2,7 @@
 ghost use mathlib.Core.Path.{_≡_};
 ghost use Prim.Native.Nat.{_+_, _<_, _≤_};
 ghost use lib.ListN.{length};
-ghost use Rattle.rules.specs.SetUp.{room};
-ghost use Rattle.rules.specs.Packing.{process-at};
+ghost use Rattle.rules.specs.Layout.{room, process-at};
 ghost use Rattle.fitting.specs.Twin.{zeros, is-sender, is-receiver, has-partner, has-guards, has-index, has-ready};
 ghost use Rattle.fitting.specs.Twin.{end-fits, stands-among, guards-fit, channel-part, progress-fits};
 ghost use Rattle.soundness.specs.Parts.{partner-part, index-part, ready-part, exchange-fits, guards-stand, choice-fits};

@@ -3,7 +3,7 @@ ghost use mathlib.Core.Path.{_≡_};
 ghost use Prim.Native.Nat.{_+_, _<_, _≤_};
 ghost use lib.ListN.{length};
 ghost use Rattle.rules.specs.Lists.{within};
-ghost use Rattle.rules.specs.Packing.{core-at, process-at, channel-at};
+ghost use Rattle.rules.specs.Layout.{core-at, process-at, channel-at};
 ghost use Rattle.fitting.specs.Twin.{word, zeros};
 
 fn wide(x: u32) -> usize

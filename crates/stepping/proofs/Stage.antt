@@ -12,7 +12,8 @@ use Rattle.rules.specs.State.{Way, sending, receiving, Stage, look, park, copy,
 use Rattle.rules.specs.Items.{core-of, process-of}
 use Rattle.rules.specs.Rule.{run}
 use Rattle.rules.specs.Scheduler.{running-step, stage-step, work-step, step}
-use Rattle.rules.specs.Packing.{view, K-of, N-of, process-at, progress-numbered, ready-numbered}
+use Rattle.rules.specs.Layout.{process-at}
+use Rattle.rules.specs.Packing.{view, K-of, N-of, progress-numbered, ready-numbered}
 use Rattle.rules.proofs.Tests.{within-means}
 use Rattle.answers.specs.Four.{four}
 use Rattle.answers.specs.declared.Reply.{Reply}

@@ -15,7 +15,8 @@ use Rattle.rules.specs.Rule.{Ran, run, done, _>>_}
 use Rattle.rules.specs.Steps.{must-sleep, joins, has-task}
 use Rattle.rules.specs.Choice.{trigger-step}
 use Rattle.rules.specs.Scheduler.{work-step, step}
-use Rattle.rules.specs.Packing.{view, core-at, process-at, place-number, work-words, work-numbered}
+use Rattle.rules.specs.Layout.{core-at, process-at}
+use Rattle.rules.specs.Packing.{view, place-number, work-words, work-numbered}
 use Rattle.packing.specs.Queues.{push-table}
 use Rattle.rules.proofs.Tests.{within-means}
 use Rattle.answers.specs.Four.{four}

@@ -3,7 +3,7 @@ ghost use mathlib.Core.Path.{_≡_};
 ghost use Prim.Native.Nat.{_-_, _≤_, _<_};
 ghost use lib.ListN.{getD};
 ghost use Rattle.rules.specs.State.{wake-up};
-ghost use Rattle.rules.specs.Packing.{process-at};
+ghost use Rattle.rules.specs.Layout.{process-at};
 ghost use Rattle.rules.specs.Scheduler.{step};
 ghost use Rattle.parts.specs.Does.{Card, Does, of-way};
 ghost use Rattle.parts.specs.Ways.{which};

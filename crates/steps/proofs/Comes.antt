@@ -7,7 +7,8 @@ use lib.ListN.{getD, set}
 use Rattle.rules.specs.Numbers.{Answer, MOVED, SLEPT, yes-with}
 use Rattle.rules.specs.State.{Way, sending, receiving, look, park, copy, clear, wake, doing, due, Task, free, ChannelWord, nobody, plain, State}
 use Rattle.rules.specs.Items.{process-of, channel-of, put, data-word, progress, channel-word, transfers}
-use Rattle.rules.specs.Packing.{pack, view, work-words, process-at, channel-at, word-number}
+use Rattle.rules.specs.Layout.{process-at, channel-at}
+use Rattle.rules.specs.Packing.{pack, view, work-words, word-number}
 use Rattle.rules.specs.Rule.{Rule, run}
 use Rattle.rules.specs.Steps.{sleeps, after-look, outcome, parked, look-step, park-step, copy-step, clear-step}
 use Rattle.answers.specs.Four.{four}

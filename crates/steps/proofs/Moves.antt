@@ -5,7 +5,8 @@ use mathlib.Core.List.{List, [], _∷_}
 use lib.ListN.{set}
 use Rattle.rules.specs.State.{Way, sending, receiving, look, park, copy, clear, wake, Progress, doing, due, State}
 use Rattle.rules.specs.Items.{process-of, put, progress}
-use Rattle.rules.specs.Packing.{process-at, of-channel, progress-words}
+use Rattle.rules.specs.Layout.{process-at}
+use Rattle.rules.specs.Packing.{of-channel, progress-words}
 use Rattle.rules.specs.Steps.{outcome}
 use Rattle.parts.specs.Does.{of-way}
 use Rattle.parts.proofs.Packs.{Packs, IsProcess, progress-written}

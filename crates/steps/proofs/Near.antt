@@ -7,7 +7,8 @@ use lib.Dec.{T}
 use lib.ListN.{length, getD}
 use Rattle.rules.specs.State.{Way, Stage, look, park, copy, clear, wake, wiring}
 use Rattle.rules.specs.Items.{channel-of}
-use Rattle.rules.specs.Packing.{view, channel-at, word-numbered}
+use Rattle.rules.specs.Layout.{channel-at}
+use Rattle.rules.specs.Packing.{view, word-numbered}
 use Rattle.rules.specs.Soundness.{is-process, own-end}
 use Rattle.rules.proofs.Tests.{both, within-means}
 use Rattle.words.specs.Meaning.{meaning}

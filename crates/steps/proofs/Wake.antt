@@ -7,7 +7,8 @@ use lib.ListN.{getD, set}
 use Rattle.rules.specs.Numbers.{Answer, FAULT, yes-with, no-because}
 use Rattle.rules.specs.State.{Place, Way, sending, receiving, wake, nothing, State}
 use Rattle.rules.specs.Items.{process-of, put, progress}
-use Rattle.rules.specs.Packing.{view, place-number, process-at}
+use Rattle.rules.specs.Layout.{process-at}
+use Rattle.rules.specs.Packing.{view, place-number}
 use Rattle.rules.specs.Rule.{Ran, accepted, run, _>>_}
 use Rattle.rules.specs.Steps.{must-sleep, joins, outcome, reports, wake-step}
 use Rattle.packing.specs.Queues.{push-table}

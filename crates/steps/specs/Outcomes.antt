@@ -3,7 +3,7 @@ use Prim.Native.Nat.{ℕ}
 use mathlib.Core.List.{List}
 use lib.ListN.{getD, set}
 use Rattle.rules.specs.State.{Way, sending, receiving}
-use Rattle.rules.specs.Packing.{process-at}
+use Rattle.rules.specs.Layout.{process-at}
 
 -- the number of the outcome: SENT or GOT
 abbrev pub due-of : Way → ℕ

@@ -3,7 +3,7 @@ use Prim.Native.Nat.{ℕ, _≤_, _<_}
 use mathlib.Core.List.{List}
 use native.Mathlib.Omega.{arith}
 use lib.ListN.{length}
-use Rattle.rules.specs.Packing.{core-at, process-at, channel-at}
+use Rattle.rules.specs.Layout.{core-at, process-at, channel-at}
 use Rattle.table.specs.Has.{HasCore, HasProcess, HasChannel}
 
 pub has-core : (t : List ℕ) (k : ℕ) → core-at k 15 < length t → HasCore t k

@@ -3,7 +3,7 @@
 use Prim.Native.Nat.{ℕ, _≤_, _<_}
 use mathlib.Core.List.{List}
 use lib.ListN.{length}
-use Rattle.rules.specs.Packing.{core-at, process-at, channel-at}
+use Rattle.rules.specs.Layout.{core-at, process-at, channel-at}
 
 -- core k
 pub record HasCore (t : List ℕ) (k : ℕ) : Type 0 where

@@ -3,7 +3,7 @@ ghost use mathlib.Core.Path.{_≡_};
 ghost use Prim.Native.Nat.{_+_, _*_, _-_, _≤_, _<_};
 ghost use lib.ListN.{length, getD, set, replicate};
 ghost use lib.Seq.{sets};
-ghost use Rattle.rules.specs.Packing.{core-at, process-at, channel-at};
+ghost use Rattle.rules.specs.Layout.{core-at, process-at, channel-at};
 
 pub fn core_word(t: &[u32], k: usize, f: usize) -> u32
     requires { ⌜ core-at k f < length (now t) ⌝ }

@@ -5,7 +5,8 @@ use native.Mathlib.Omega.{arith}
 use lib.Dec.{eqb, leb}
 use borrow.Author.Tests.{eq-eqb, ne-eqb, le-leb, lt-leb}
 use borrow.Author.Needs.{needs}
-use Rattle.rules.specs.Packing.{word-at, channel-at}
+use Rattle.rules.specs.Layout.{channel-at}
+use Rattle.rules.specs.Packing.{word-at}
 use Rattle.requests.proofs.end_refusal.Statement.{statement}
 use Rattle.requests.proofs.end_refusal.Tie as tie
 

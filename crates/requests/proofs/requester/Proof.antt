@@ -5,7 +5,8 @@ use native.Mathlib.Omega.{arith}
 use lib.Dec.{eqb}
 use borrow.Author.Tests.{eq-eqb, ne-eqb}
 use borrow.Author.Needs.{needs}
-use Rattle.rules.specs.Packing.{word-at, core-at, process-at}
+use Rattle.rules.specs.Layout.{core-at, process-at}
+use Rattle.rules.specs.Packing.{word-at}
 use Rattle.table.specs.Has.{HasProcess}
 use Rattle.requests.proofs.requester.Statement.{statement}
 use Rattle.requests.proofs.requester.Tie as tie

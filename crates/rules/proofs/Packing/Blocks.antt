@@ -44,21 +44,8 @@ use Rattle.rules.specs.State.{
   Channel,
 }
 use Rattle.rules.specs.Items.{core-of, process-of, channel-of}
-use Rattle.rules.specs.SetUp.{room}
-use Rattle.rules.specs.Packing.{
-  work-words,
-  core-words,
-  padded,
-  request-words,
-  progress-words,
-  process-words,
-  channel-words,
-  header-words,
-  pack,
-  core-at,
-  process-at,
-  channel-at,
-}
+use Rattle.rules.specs.Layout.{room, core-at, process-at, channel-at}
+use Rattle.rules.specs.Packing.{work-words, core-words, padded, request-words, progress-words, process-words, channel-words, header-words, pack}
 use Rattle.rules.proofs.Packing.Regions.{Dims, Words, Holds}
 
 -- A list of blocks

@@ -9,25 +9,8 @@ use lib.Seq.{ext-getD}
 use Rattle.rules.specs.Lists.{tabulate, bit, first, last}
 use Rattle.rules.specs.State.{Alternation, Process, Core, Channel, State}
 use Rattle.rules.specs.Items.{core-of, process-of, channel-of}
-use Rattle.rules.specs.Packing.{
-  place-number,
-  word-number,
-  work-words,
-  heads,
-  padded,
-  core-words,
-  progress-words,
-  next-link,
-  head-link,
-  batch-link,
-  process-words,
-  channel-words,
-  header-words,
-  pack,
-  core-at,
-  process-at,
-  channel-at,
-}
+use Rattle.rules.specs.Layout.{core-at, process-at, channel-at}
+use Rattle.rules.specs.Packing.{place-number, word-number, work-words, heads, padded, core-words, progress-words, next-link, head-link, batch-link, process-words, channel-words, header-words, pack}
 use Rattle.rules.proofs.Tabulate.{length-tabulate, tabulate-at}
 use Rattle.rules.proofs.Packing.Blocks.{pack-holds, length-padded, length-work-words, length-progress-words, first-part, second-part}
 

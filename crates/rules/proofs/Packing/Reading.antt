@@ -10,7 +10,8 @@ use borrow.Author.Tests.{eq-eqb, ne-eqb}
 use Rattle.rules.specs.Lists.{bit}
 use Rattle.rules.specs.State.{State}
 use Rattle.rules.specs.Items.{process-of, channel-of}
-use Rattle.rules.specs.Packing.{progress-words, pack, word-at, K-of, N-of, M-of, process-at, channel-at, word-of-process, word-of-channel}
+use Rattle.rules.specs.Layout.{process-at, channel-at}
+use Rattle.rules.specs.Packing.{progress-words, pack, word-at, K-of, N-of, M-of, word-of-process, word-of-channel}
 use Rattle.rules.proofs.Packing.ReadLaws.{state-words, link-words, channel-list, read-header, read-channel, read-state, read-progress, read-link}
 
 -- a test is read back from its number

@@ -38,26 +38,8 @@ use Rattle.rules.specs.State.{
   wiring,
 }
 use Rattle.rules.specs.Items.{core-of, process-of}
-use Rattle.rules.specs.Packing.{
-  work-words,
-  heads,
-  padded,
-  ready-number,
-  of-channel,
-  of-choice,
-  progress-words,
-  next-link,
-  if-head,
-  head-link,
-  batch-link,
-  pack,
-  word-of-core,
-  word-of-process,
-  process-channel,
-  process-partner,
-  process-index,
-  process-first-ready,
-}
+use Rattle.rules.specs.Layout.{process-channel, process-partner, process-index, process-first-ready}
+use Rattle.rules.specs.Packing.{work-words, heads, padded, ready-number, of-channel, of-choice, progress-words, next-link, if-head, head-link, batch-link, pack, word-of-core, word-of-process}
 use Rattle.rules.specs.UsedWords.{guards-used, used-words}
 use Rattle.rules.specs.Soundness.{is-process, in-queues}
 use Rattle.rules.specs.Claims.{UnusedOfCore, batches-headed, UnusedOfProcess, UnusedWordsZero}

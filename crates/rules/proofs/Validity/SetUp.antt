@@ -14,7 +14,8 @@ use Rattle.rules.specs.Lists.{if_then_else_, within, all, total, tabulat
 use Rattle.rules.specs.Numbers.{Refusal, SIZE, PAIRS, ROOM, NAME, SELF}
 use Rattle.rules.specs.State.{Ends, Channel, Wiring, wiring}
 use Rattle.rules.specs.Items.{no-process, process-of}
-use Rattle.rules.specs.SetUp.{room, sizes, ends-of, proper-pairs, set-up-refusal, its-batches, new-core, new-process, new-channel, set-up-state}
+use Rattle.rules.specs.Layout.{room}
+use Rattle.rules.specs.SetUp.{sizes, ends-of, proper-pairs, set-up-refusal, its-batches, new-core, new-process, new-channel, set-up-state}
 use Rattle.rules.specs.Soundness.{is-process, on-cores, in-queues, not-empty, valid-core, valid-channel, valid}
 use Rattle.rules.proofs.Tests.{tests, and-means, tabulate-all}
 use Rattle.rules.proofs.Tabulate.{length-tabulate, tabulate-at}

@@ -7,7 +7,7 @@ use lib.ListN.{replicate}
 use Rattle.rules.specs.State.{running, queued, sending, receiving, look, park, wake, finish, Progress, nothing, doing, no-task, runs, free}
 use Rattle.rules.specs.Items.{core, place, progress, alternation}
 use Rattle.rules.specs.Requests.{Request, send, receive, choose, yield, end}
-use Rattle.rules.specs.SetUp.{room}
+use Rattle.rules.specs.Layout.{room}
 use Rattle.rules.specs.Packing.{pack}
 use Rattle.rules.specs.Calls.{Result, Ask, the-step, a-request, call, set-up-call}
 use Rattle.rules.specs.Examples.Card.{Change, _of_is_, changed, a-core, alternating}

@@ -7,7 +7,8 @@ use lib.Dec.{eqb}
 use lib.ListN.{length}
 use borrow.Author.Needs.{needs}
 use borrow.Author.Tests.{not-true, not-false, eq-eqb, ne-eqb}
-use Rattle.rules.specs.SetUp.{room, sizes}
+use Rattle.rules.specs.Layout.{room}
+use Rattle.rules.specs.SetUp.{sizes}
 use Rattle.set_up.proofs.refusal.Statement.{statement}
 use Rattle.set_up.proofs.refusal.Tie as tie
 
