@@ -1,5 +1,5 @@
 -- What the code of a step promises: on a sound table it does what its rule says, no more and no less.
-use Prim.Native.Nat.{ℕ, _+_, _<_}
+use Prim.Native.Nat.{ℕ, _+_, _-_, _<_}
 use mathlib.Core.Path.{_≡_}
 use mathlib.Core.List.{List}
 use lib.Dec.{T}
@@ -7,6 +7,7 @@ use Rattle.rules.specs.Numbers.{Answer, yes-with, no-because}
 use Rattle.rules.specs.State.{Way, sending, receiving, Stage, doing, runs}
 use Rattle.rules.specs.Items.{core-of, process-of}
 use Rattle.rules.specs.Rule.{Rule, Ran, accepted, refused, run}
+use Rattle.rules.specs.Layout.{at-send-look, at-receive-look}
 use Rattle.rules.specs.Packing.{pack, view, K-of, N-of}
 use Rattle.rules.specs.Soundness.{sound}
 use Rattle.answers.specs.Four.{four}
@@ -33,7 +34,7 @@ pub record At (t : List ℕ) (cores processes k p : ℕ) (x : Stage) : Type 0 wh
   pub runs : core-of (view t) k .work ≡ runs p
   pub stage : process-of (view t) p .progress ≡ doing x
 
--- the number of a stage of send or receive: those of receive are 5 more
+-- the number of a stage of receive, given by that of send: they stand in the same order
 abbrev pub of-way : Way → ℕ → ℕ
 of-way sending n = n
-of-way receiving n = n + 5
+of-way receiving n = n + (at-receive-look - at-send-look)
