@@ -10,7 +10,7 @@ use lib.ListN.{length, getD, set, length-set, length-append}
 use lib.Seq.{set-append-left}
 use borrow.Author.Tests.{eqb-true, eqb-false, lt-ltb, ne-eqb}
 use Rattle.rules.specs.Lists.{if_then_else_, all}
-use Rattle.rules.specs.Layout.{room, core-at, process-at, channel-at}
+use Rattle.rules.specs.Layout.{core-stride, process-stride, channel-stride, core-at, process-at, channel-at, room}
 use Rattle.rules.proofs.Tests.{same-test, apart, here-or-there, both}
 use Rattle.rules.proofs.Packing.Regions.{Dims, Words, Holds, Same, getD-set, holds-set, written}
 
@@ -68,9 +68,9 @@ pub data Region : Type 0 where
 
 -- how many words a block of a region has
 abbrev pub size-in : Region → ℕ
-size-in cores = 16
-size-in processes = 24
-size-in channels = 4
+size-in cores = core-stride
+size-in processes = process-stride
+size-in channels = channel-stride
 
 -- j is the number of a block
 abbrev pub Has : Dims → Region → ℕ → Type 0
