@@ -3,6 +3,7 @@ pub mod Regions
 pub mod Blocks
 pub mod Reflect
 pub mod Chains
+pub mod Numbered
 pub mod ReadLaws
 pub mod Reading
 pub mod ViewCore

@@ -8,44 +8,10 @@ use native.Mathlib.Nat.{mul-suc, mul-zero, zero-add, add-zero}
 use lib.ListN.{length, getD, length-append, List·getD-append}
 use lib.Seq.{getD-append-add}
 use Rattle.rules.specs.Lists.{from}
-use Rattle.rules.specs.State.{
-  sending,
-  receiving,
-  look,
-  park,
-  copy,
-  clear,
-  wake,
-  enable-look,
-  raise,
-  place-name,
-  ready-from-look,
-  ready-from-place,
-  wait,
-  disable,
-  lower,
-  finish,
-  go,
-  sent,
-  got,
-  chose,
-  Progress,
-  nothing,
-  doing,
-  due,
-  no-task,
-  trigger,
-  wake-up,
-  Work,
-  runs,
-  free,
-  Core,
-  State,
-  Channel,
-}
+use Rattle.rules.specs.State.{Progress, no-task, trigger, wake-up, Work, runs, free, Core, State, Channel}
 use Rattle.rules.specs.Items.{core-of, process-of, channel-of}
 use Rattle.rules.specs.Layout.{header-size, core-stride, process-stride, channel-stride, processes-at, channels-at, core-at, process-at, channel-at, room, core-first, progress-size, guard-places}
-use Rattle.rules.specs.Packing.{work-words, core-words, padded, request-words, progress-words, process-words, channel-words, header-words, pack}
+use Rattle.rules.specs.Packing.{Carried, bare, channel-only, channel-partner, guards-only, guards-index, guards-index-ready, guards-ready, packed-as, work-words, core-words, padded, of-choice, carried-words, progress-words, process-words, channel-words, header-words, pack}
 use Rattle.rules.proofs.Packing.Regions.{Dims, Words, Holds}
 
 -- A list of blocks
@@ -78,35 +44,21 @@ length-padded zero l = refl
 length-padded (suc n) [] = ap suc (length-padded n [])
 length-padded (suc n) (x ∷ xs) = ap suc (length-padded n xs)
 
-length-request-words : (number c q : ℕ) (gs : List ℕ) (i : ℕ) (r : Option ℕ) → length (request-words number c q gs i r) ≡ progress-size
-length-request-words number c q gs i r = omega (arith, length-padded guard-places gs)
+length-choice : (number : ℕ) (gs : List ℕ) (i : ℕ) (r : Option ℕ) → length (of-choice number gs i r) ≡ progress-size
+length-choice number gs i r = omega (arith, length-padded guard-places gs)
+
+length-carried-words : (number : ℕ) (x : Carried) → length (carried-words number x) ≡ progress-size
+length-carried-words number bare = refl
+length-carried-words number (channel-only c) = refl
+length-carried-words number (channel-partner c q) = refl
+length-carried-words number (guards-only gs) = length-choice number gs 0 none
+length-carried-words number (guards-index gs i) = length-choice number gs i none
+length-carried-words number (guards-index-ready gs i r) = length-choice number gs i r
+length-carried-words number (guards-ready gs r) = length-choice number gs 0 r
 
 pub length-progress-words : (x : Progress) → length (progress-words x) ≡ progress-size
 unfolding progress-words
-length-progress-words nothing = refl
-length-progress-words (doing (look sending c)) = refl
-length-progress-words (doing (park sending c)) = refl
-length-progress-words (doing (copy sending c q)) = refl
-length-progress-words (doing (clear sending c q)) = refl
-length-progress-words (doing (wake sending c q)) = refl
-length-progress-words (doing (look receiving c)) = refl
-length-progress-words (doing (park receiving c)) = refl
-length-progress-words (doing (copy receiving c q)) = refl
-length-progress-words (doing (clear receiving c q)) = refl
-length-progress-words (doing (wake receiving c q)) = refl
-length-progress-words (doing (enable-look gs i)) = length-request-words 11 0 0 gs i none
-length-progress-words (doing (raise gs i)) = length-request-words 12 0 0 gs i none
-length-progress-words (doing (place-name gs i)) = length-request-words 13 0 0 gs i none
-length-progress-words (doing (ready-from-look gs i)) = length-request-words 14 0 0 gs i none
-length-progress-words (doing (ready-from-place gs i)) = length-request-words 15 0 0 gs i none
-length-progress-words (doing (wait gs)) = length-request-words 16 0 0 gs 0 none
-length-progress-words (doing (disable gs i r)) = length-request-words 17 0 0 gs i r
-length-progress-words (doing (lower gs i r)) = length-request-words 18 0 0 gs i r
-length-progress-words (doing (finish gs r)) = length-request-words 19 0 0 gs 0 r
-length-progress-words (due go) = refl
-length-progress-words (due (sent c)) = refl
-length-progress-words (due (got c)) = refl
-length-progress-words (due (chose c)) = refl
+length-progress-words x = length-carried-words (packed-as x .0) (packed-as x .1)
 
 pub length-work-words : (w : Work) → length (work-words w) ≡ core-first
 length-work-words (runs p) = refl

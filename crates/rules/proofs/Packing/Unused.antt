@@ -7,40 +7,11 @@ use native.Mathlib.Omega.{arith}
 use lib.Dec.{T, eqb, lit<}
 use lib.ListN.{length, getD, take}
 use Rattle.rules.specs.Lists.{total, from, member, first, last, follows}
-use Rattle.rules.specs.State.{
-  sending,
-  receiving,
-  look,
-  park,
-  copy,
-  clear,
-  wake,
-  enable-look,
-  raise,
-  place-name,
-  ready-from-look,
-  ready-from-place,
-  wait,
-  disable,
-  lower,
-  finish,
-  go,
-  sent,
-  got,
-  chose,
-  Progress,
-  nothing,
-  doing,
-  due,
-  Core,
-  queues-of,
-  State,
-  wiring,
-}
+use Rattle.rules.specs.State.{Progress, Core, queues-of, State, wiring}
 use Rattle.rules.specs.Items.{core-of, process-of}
 use Rattle.rules.specs.Layout.{header-size, core-stride, header-spare, core-task, core-task-process, core-first, core-last, core-size, core-first-head, core-last-head, core-spare, process-progress, process-channel, process-partner, process-guards, process-index, process-first-ready, process-first-guard, process-next, process-last, process-size, process-next-head, process-spare, progress-size, guard-places}
-use Rattle.rules.specs.Packing.{work-words, heads, padded, ready-number, of-channel, of-choice, progress-words, next-link, if-head, head-link, batch-link, pack, word-of-core, word-of-process}
-use Rattle.rules.specs.UsedWords.{guards-used, used-words}
+use Rattle.rules.specs.Packing.{Carried, bare, channel-only, channel-partner, guards-only, guards-index, guards-index-ready, guards-ready, packed-as, carried-words, work-words, heads, padded, ready-number, of-channel, of-choice, progress-words, next-link, if-head, head-link, batch-link, pack, word-of-core, word-of-process}
+use Rattle.rules.specs.UsedWords.{guards-used, used-by, used-words}
 use Rattle.rules.specs.Soundness.{is-process, in-queues}
 use Rattle.rules.specs.Claims.{UnusedOfCore, batches-headed, UnusedOfProcess, UnusedWordsZero}
 use Rattle.rules.proofs.Tests.{or-left, or-right, eqb-means, within-means}
@@ -120,50 +91,21 @@ choice-unused more number gs i r index ready (suc (suc (suc (suc (suc (suc j))))
     let e : process-first-guard + j ≡ f = omega arith in
     guard-unused process-first-guard guard-places gs j (λ m. h (member-behind f more (guards-used gs) (or-right (eqb process-guards f) _ (rw e at m))))
 
--- the shapes that occur: nothing, a channel, a channel and a partner; guards with an index, or with a first ready guard besides
-no-request : (number : ℕ) → Unused [] (of-channel number 0 0)
-no-request number = channel-unused [] number 0 0 (λ h. refl) (λ h. refl)
-
-on-channel : (number c : ℕ) → Unused (process-channel ∷ []) (of-channel number c 0)
-on-channel number c = channel-unused (process-channel ∷ []) number c 0 (λ h. absurd (h tt)) (λ h. refl)
-
-with-partner : (number c q : ℕ) → Unused (process-channel ∷ process-partner ∷ []) (of-channel number c q)
-with-partner number c q = channel-unused (process-channel ∷ process-partner ∷ []) number c q (λ h. absurd (h tt)) (λ h. absurd (h tt))
-
-at-guard : (number : ℕ) (gs : List ℕ) (i : ℕ) → Unused (process-index ∷ guards-used gs) (of-choice number gs i none)
-at-guard number gs i = choice-unused (process-index ∷ []) number gs i none (λ h. absurd (h tt)) (λ h. refl)
-
-with-ready : (number : ℕ) (gs : List ℕ) (i : ℕ) (r : Option ℕ)
-    → Unused (process-index ∷ process-first-ready ∷ guards-used gs) (of-choice number gs i r)
-with-ready number gs i r =
+-- by what it carries
+carried-unused : (number : ℕ) (x : Carried) → Unused (used-by x) (carried-words number x)
+carried-unused number bare = channel-unused [] number 0 0 (λ h. refl) (λ h. refl)
+carried-unused number (channel-only c) = channel-unused (process-channel ∷ []) number c 0 (λ h. absurd (h tt)) (λ h. refl)
+carried-unused number (channel-partner c q) =
+    channel-unused (process-channel ∷ process-partner ∷ []) number c q (λ h. absurd (h tt)) (λ h. absurd (h tt))
+carried-unused number (guards-only gs) = choice-unused [] number gs 0 none (λ h. refl) (λ h. refl)
+carried-unused number (guards-index gs i) = choice-unused (process-index ∷ []) number gs i none (λ h. absurd (h tt)) (λ h. refl)
+carried-unused number (guards-index-ready gs i r) =
     choice-unused (process-index ∷ process-first-ready ∷ []) number gs i r (λ h. absurd (h tt)) (λ h. absurd (h tt))
+carried-unused number (guards-ready gs r) = choice-unused (process-first-ready ∷ []) number gs 0 r (λ h. refl) (λ h. absurd (h tt))
 
 progress-unused : (x : Progress) → Unused (used-words x) (progress-words x)
 unfolding progress-words
-progress-unused nothing = no-request 0
-progress-unused (doing (look sending c)) = on-channel 1 c
-progress-unused (doing (park sending c)) = on-channel 2 c
-progress-unused (doing (copy sending c q)) = with-partner 3 c q
-progress-unused (doing (clear sending c q)) = with-partner 4 c q
-progress-unused (doing (wake sending c q)) = with-partner 5 c q
-progress-unused (doing (look receiving c)) = on-channel 6 c
-progress-unused (doing (park receiving c)) = on-channel 7 c
-progress-unused (doing (copy receiving c q)) = with-partner 8 c q
-progress-unused (doing (clear receiving c q)) = with-partner 9 c q
-progress-unused (doing (wake receiving c q)) = with-partner 10 c q
-progress-unused (doing (enable-look gs i)) = at-guard 11 gs i
-progress-unused (doing (raise gs i)) = at-guard 12 gs i
-progress-unused (doing (place-name gs i)) = at-guard 13 gs i
-progress-unused (doing (ready-from-look gs i)) = at-guard 14 gs i
-progress-unused (doing (ready-from-place gs i)) = at-guard 15 gs i
-progress-unused (doing (wait gs)) = choice-unused [] 16 gs 0 none (λ h. refl) (λ h. refl)
-progress-unused (doing (disable gs i r)) = with-ready 17 gs i r
-progress-unused (doing (lower gs i r)) = with-ready 18 gs i r
-progress-unused (doing (finish gs r)) = choice-unused (process-first-ready ∷ []) 19 gs 0 r (λ h. refl) (λ h. absurd (h tt))
-progress-unused (due go) = no-request 20
-progress-unused (due (sent c)) = on-channel 21 c
-progress-unused (due (got c)) = on-channel 22 c
-progress-unused (due (chose c)) = on-channel 23 c
+progress-unused x = carried-unused (packed-as x .0) (packed-as x .1)
 
 -- A process
 

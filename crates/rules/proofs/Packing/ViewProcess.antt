@@ -44,7 +44,7 @@ use Rattle.rules.specs.State.{
   wiring,
 }
 use Rattle.rules.specs.Items.{process-of}
-use Rattle.rules.specs.Layout.{process-place, process-data, process-enabling, process-not-ready, process-waiting, process-count, process-progress, process-channel, process-partner, process-guards, process-index, process-first-ready, process-first-guard, progress-size, guard-places}
+use Rattle.rules.specs.Layout.{process-place, process-data, process-enabling, process-not-ready, process-waiting, process-count, process-progress, process-channel, process-partner, process-guards, process-index, process-first-ready, process-first-guard, progress-size, guard-places, at-enable-look, at-raise, at-place-name, at-ready-from-look, at-ready-from-place, at-wait, at-disable, at-lower, at-finish}
 use Rattle.rules.specs.Packing.{
   place-number,
   ready-number,
@@ -127,15 +127,15 @@ module _ (w : Wiring) (p : ℕ) where
   progress-back (doing (copy receiving c q)) h = refl
   progress-back (doing (clear receiving c q)) h = refl
   progress-back (doing (wake receiving c q)) h = refl
-  progress-back (doing (enable-look gs i)) h = enabling-back 11 gs i h
-  progress-back (doing (raise gs i)) h = enabling-back 12 gs i h
-  progress-back (doing (place-name gs i)) h = enabling-back 13 gs i h
-  progress-back (doing (ready-from-look gs i)) h = enabling-back 14 gs i h
-  progress-back (doing (ready-from-place gs i)) h = enabling-back 15 gs i h
-  progress-back (doing (wait gs)) h = choice-back 16 gs 0 none h tt
-  progress-back (doing (disable gs i r)) h = disabling-back 17 gs i r h
-  progress-back (doing (lower gs i r)) h = disabling-back 18 gs i r h
-  progress-back (doing (finish gs r)) h = let t = both (own-guards w p gs) (ready-in-list gs r) h in choice-back 19 gs 0 r (t .0) (t .1)
+  progress-back (doing (enable-look gs i)) h = enabling-back at-enable-look gs i h
+  progress-back (doing (raise gs i)) h = enabling-back at-raise gs i h
+  progress-back (doing (place-name gs i)) h = enabling-back at-place-name gs i h
+  progress-back (doing (ready-from-look gs i)) h = enabling-back at-ready-from-look gs i h
+  progress-back (doing (ready-from-place gs i)) h = enabling-back at-ready-from-place gs i h
+  progress-back (doing (wait gs)) h = choice-back at-wait gs 0 none h tt
+  progress-back (doing (disable gs i r)) h = disabling-back at-disable gs i r h
+  progress-back (doing (lower gs i r)) h = disabling-back at-lower gs i r h
+  progress-back (doing (finish gs r)) h = let t = both (own-guards w p gs) (ready-in-list gs r) h in choice-back at-finish gs 0 r (t .0) (t .1)
   progress-back (due go) h = refl
   progress-back (due (sent c)) h = refl
   progress-back (due (got c)) h = refl
