@@ -16,12 +16,13 @@ use Rattle.rules.specs.Layout.{core-stride, process-stride, core-at, process-at
 use Rattle.rules.specs.Packing.{heads, spare, if-head, next-link, head-link, batch-link, core-words, process-words, work-words, pack}
 use Rattle.rules.specs.Soundness.{in-queues}
 use Rattle.packing.specs.Queues.{link-end, with-queues}
-use Rattle.rules.proofs.Packing.Regions.{Dims, Words, Holds, holds-set, written}
+use Rattle.rules.proofs.Packing.Regions.{Dims, Words, Holds}
 use Rattle.rules.proofs.Packing.Blocks.{dims, words-of, pack-holds, length-progress-words, first-part, second-part}
-use Rattle.rules.proofs.Packing.ReadLaws.{own-words, link-words, rest-words, process-split, listed, core-list, core-listed}
+use Rattle.rules.proofs.Packing.Reading.{link-words, rest-words}
+use Rattle.packing.proofs.ReadLaws.{own-words, process-split, listed, core-list, core-listed}
 use Rattle.rules.proofs.Tests.{by-test, same-test, apart, here-or-there, both, together}
 use Rattle.packing.proofs.States.{dims-core, packed, same-header}
-use Rattle.packing.proofs.Focus.{writes, below, cores, focus, focus-writes, length-writes, focus-start, holds-same}
+use Rattle.packing.proofs.Focus.{written, holds-set, writes, below, cores, focus, focus-writes, length-writes, focus-start, holds-same}
 use Rattle.rules.proofs.Sums.{total-set, total-alone}
 use Rattle.rules.proofs.QueueLists.{no-next, no-head, no-next-head}
 

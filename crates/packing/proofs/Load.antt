@@ -11,7 +11,7 @@ use Rattle.rules.specs.Items.{core-of, put, core}
 use Rattle.rules.specs.Layout.{core-at, process-at, core-first, core-last, core-size, core-first-head, core-last-head, process-last, process-size, process-next-head}
 use Rattle.rules.specs.Packing.{heads, if-head, word-at, head-link, batch-link, pack}
 use Rattle.packing.specs.Queues.{load-writes, load-table, with-queues, Queued}
-use Rattle.rules.proofs.Packing.ReadLaws.{read-core, read-process}
+use Rattle.packing.proofs.ReadLaws.{read-core, read-process}
 use Rattle.rules.proofs.Tests.{here-or-there, both}
 use Rattle.rules.proofs.QueueLists.{follows-first, follows-rest, if-head-first, if-head-other, no-head, no-next-head}
 use Rattle.packing.proofs.Links.{

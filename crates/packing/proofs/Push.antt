@@ -11,7 +11,7 @@ use Rattle.rules.specs.Items.{core-of, put, core}
 use Rattle.rules.specs.Layout.{core-first, core-last, core-size, process-next}
 use Rattle.rules.specs.Packing.{next-link, pack}
 use Rattle.packing.specs.Queues.{push-writes, push-table, with-queues, Queued}
-use Rattle.rules.proofs.Packing.ReadLaws.{read-core}
+use Rattle.packing.proofs.ReadLaws.{read-core}
 use Rattle.rules.proofs.Tests.{here-or-there}
 use Rattle.rules.proofs.QueueLists.{follows-more, follows-last, last-append, times-last, no-next}
 use Rattle.packing.proofs.Links.{

@@ -12,7 +12,7 @@ use Rattle.rules.specs.Items.{core-of, put, core}
 use Rattle.rules.specs.Layout.{core-at, process-at, core-first, core-last, core-size, core-last-head, process-next, process-last, process-size, process-next-head}
 use Rattle.rules.specs.Packing.{heads, if-head, word-at, next-link, head-link, batch-link, pack}
 use Rattle.packing.specs.Queues.{split-writes, split-table, with-queues, Queued}
-use Rattle.rules.proofs.Packing.ReadLaws.{read-core}
+use Rattle.packing.proofs.ReadLaws.{read-core}
 use Rattle.rules.proofs.Tests.{here-or-there}
 use Rattle.rules.proofs.Sums.{total-append, times-append, head-stands}
 use Rattle.rules.proofs.QueueLists.{times-last, times-heads, follows-none, follows-single, follows-rest, follows-more, follows-last, last-append, heads-append, if-head-first, if-head-other, no-next, no-head}

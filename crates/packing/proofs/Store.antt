@@ -11,7 +11,7 @@ use Rattle.rules.specs.Items.{core-of, put, core}
 use Rattle.rules.specs.Layout.{core-first, core-last, core-size, core-first-head, core-last-head, process-last, process-size, process-next-head}
 use Rattle.rules.specs.Packing.{heads, if-head, head-link, batch-link, pack}
 use Rattle.packing.specs.Queues.{store-heads, store-writes, store-table, with-queues, Queued}
-use Rattle.rules.proofs.Packing.ReadLaws.{read-core, core-list}
+use Rattle.packing.proofs.ReadLaws.{read-core, core-list}
 use Rattle.rules.proofs.Tests.{here-or-there}
 use Rattle.rules.proofs.Sums.{total-append}
 use Rattle.rules.proofs.QueueLists.{follows-more, follows-last, last-append, heads-append, if-head-first, if-head-other, no-head}

@@ -11,7 +11,7 @@ use Rattle.rules.specs.Items.{core-of, put, core}
 use Rattle.rules.specs.Layout.{core-at, process-at, core-first, core-last, core-size, process-next}
 use Rattle.rules.specs.Packing.{word-at, next-link, pack}
 use Rattle.packing.specs.Queues.{take-writes, take-table, with-queues, Queued}
-use Rattle.rules.proofs.Packing.ReadLaws.{read-core, read-process}
+use Rattle.packing.proofs.ReadLaws.{read-core, read-process}
 use Rattle.rules.proofs.Tests.{here-or-there, both}
 use Rattle.rules.proofs.QueueLists.{follows-none, follows-first, follows-rest, no-next}
 use Rattle.packing.proofs.Links.{

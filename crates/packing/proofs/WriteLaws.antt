@@ -37,16 +37,8 @@ use Rattle.rules.proofs.Packing.Blocks.{
   length-progress-words,
 }
 use Rattle.packing.proofs.Links.{links-of, held-first, held-writes, held-last, next-kept, head-kept, next-head-kept}
-use Rattle.rules.proofs.Packing.ReadLaws.{
-  listed,
-  listed-same,
-  core-list,
-  alternation-words,
-  own-words,
-  rest-words,
-  channel-list,
-  process-split,
-}
+use Rattle.rules.proofs.Packing.Reading.{alternation-words, rest-words}
+use Rattle.packing.proofs.ReadLaws.{listed, listed-same, core-list, own-words, channel-list, process-split}
 use Rattle.rules.proofs.Tests.{here-or-there}
 use Rattle.packing.proofs.States.{with-process, with-channel, dims-process, dims-channel, packed, same-header}
 use Rattle.packing.proofs.Focus.{

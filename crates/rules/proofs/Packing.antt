@@ -4,7 +4,6 @@ pub mod Blocks
 pub mod Reflect
 pub mod Chains
 pub mod Numbered
-pub mod ReadLaws
 pub mod Reading
 pub mod ViewCore
 pub mod ViewProcess

@@ -4,16 +4,16 @@ use mathlib.Core.Path.{_∙_}
 use lib.Dec.{lit<}
 use lib.ListN.{length}
 use Rattle.rules.specs.Lists.{last}
-use Rattle.rules.specs.Layout.{core-last, core-size, core-last-head, process-next, process-last, process-size}
+use Rattle.rules.specs.Layout.{core-first, core-last, core-size, core-last-head, process-next, process-last, process-size}
 use Rattle.rules.specs.Claims.{KeptWords}
 use Rattle.rules.proofs.Packing.Reflect.{valid-means}
 use Rattle.rules.proofs.Packing.Chains.{head-range, head-keeps}
-use Rattle.rules.proofs.Packing.ReadLaws.{read-core}
-use Rattle.rules.proofs.Packing.Reading.{link-word}
+use Rattle.rules.proofs.Packing.Reading.{queue-word, link-word}
 
 pub kept-words : KeptWords
 kept-words = record {
-  cores = λ s k b. let at = read-core s k in (at core-last b (lit< tt), at core-size b (lit< tt), at core-last-head b (lit< tt));
+  cores = λ s k b. let at = queue-word s k b in
+      (at (core-last - core-first) (lit< tt), at (core-size - core-first) (lit< tt), at (core-last-head - core-first) (lit< tt));
   batches = λ s k i good b c.
       let v = valid-means s good in
       let (low, high) = head-range s v k b i c in

@@ -1,15 +1,14 @@
--- A table as words by regions: header, cores, processes, channels. What a table holds at each address, what it holds after one
--- word is written, and that it is determined by what it holds.
+-- A table as words by regions: header, cores, processes, channels. What a table holds at each address, and that it is determined by what
+-- it holds.
 use Prim.Native.Nat.{ℕ, _+_, _-_, _/_, _%_, _≤_, _<_}
-use mathlib.Core.Path.{_≡_, refl, sym, ap, _∙_, subst}
+use mathlib.Core.Path.{_≡_, refl, sym, _∙_, subst}
 use mathlib.Core.Bool.{Bool, true, false}
 use mathlib.Core.List.{List}
 use native.Mathlib.Omega.{arith}
-use lib.Dec.{eqb, ltb}
-use lib.ListN.{length, getD, set, length-set}
-use lib.Seq.{ext-getD, getD-set-same, getD-set-other}
-use borrow.Author.Tests.{eqb-true, eqb-false, ltb-true, ltb-false}
-use Rattle.rules.specs.Lists.{if_then_else_}
+use lib.Dec.{ltb}
+use lib.ListN.{length, getD}
+use lib.Seq.{ext-getD}
+use borrow.Author.Tests.{ltb-true, ltb-false}
 use Rattle.rules.specs.Layout.{header-size, core-stride, process-stride, channel-stride, processes-at, channels-at, core-at, process-at, channel-at, room}
 
 -- how many cores, processes and channels
@@ -85,32 +84,3 @@ held-once d v w t u h g e = ext-getD 0 t u (h .size ∙ sym (g .size)) each
 
     each : (i : ℕ) → i < length t → getD t i 0 ≡ getD u i 0
     each i l = first i (subst (λ (m : ℕ). i < m) (h .size) l) (ltb i header-size) refl
-
--- w, but v at the address a
-abbrev pub written : Dims → ℕ → ℕ → Words → Words
-written d a v w =
-    record {
-      header = λ f. if eqb f a then v else w .header f;
-      core = λ k f. if eqb (core-at k f) a then v else w .core k f;
-      process = λ p f. if eqb (process-at (d .K) p f) a then v else w .process p f;
-      channel = λ c f. if eqb (channel-at (d .K) (d .N) c f) a then v else w .channel c f;
-    }
-
--- one word of a list after another was written
-pub getD-set : (t : List ℕ) (a v i x : ℕ) → a < length t → getD t i 0 ≡ x → getD (set t a v) i 0 ≡ (if eqb i a then v else x)
-getD-set t a v i x inside e = cases (eqb i a) refl
-  where
-    cases : (b : Bool) → eqb i a ≡ b → getD (set t a v) i 0 ≡ (if b then v else x)
-    cases true q = ap (λ (j : ℕ). getD (set t a v) j 0) (eqb-true i a q) ∙ getD-set-same t a v 0 inside
-    cases false q = getD-set-other t a i v 0 (eqb-false i a q) ∙ e
-
--- What a table holds after one word is written.
-pub holds-set : (d : Dims) (w : Words) (t : List ℕ) (a v : ℕ) → Holds d w t → a < length t → Holds d (written d a v w) (set t a v)
-holds-set d w t a v h inside =
-    record {
-      size = length-set t a v ∙ h .size;
-      header = λ f b. getD-set t a v f (w .header f) inside (h .header f b);
-      core = λ k f b b′. getD-set t a v (core-at k f) (w .core k f) inside (h .core k f b b′);
-      process = λ p f l b b′. getD-set t a v (process-at (d .K) p f) (w .process p f) inside (h .process p f l b b′);
-      channel = λ c f l b b′. getD-set t a v (channel-at (d .K) (d .N) c f) (w .channel c f) inside (h .channel c f l b b′);
-    }

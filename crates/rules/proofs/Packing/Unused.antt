@@ -10,15 +10,15 @@ use Rattle.rules.specs.Lists.{total, from, member, first, last, follows}
 use Rattle.rules.specs.State.{Progress, Core, queues-of, State, wiring}
 use Rattle.rules.specs.Items.{core-of, process-of}
 use Rattle.rules.specs.Layout.{header-size, core-stride, header-spare, core-task, core-task-process, core-first, core-last, core-size, core-first-head, core-last-head, core-spare, process-progress, process-channel, process-partner, process-guards, process-index, process-first-ready, process-first-guard, process-next, process-last, process-size, process-next-head, process-spare, progress-size, guard-places}
-use Rattle.rules.specs.Packing.{Carried, bare, channel-only, channel-partner, guards-only, guards-index, guards-index-ready, guards-ready, packed-as, carried-words, work-words, heads, padded, ready-number, of-channel, of-choice, progress-words, next-link, if-head, head-link, batch-link, pack, word-of-core, word-of-process}
+use Rattle.rules.specs.Packing.{Carried, bare, channel-only, channel-partner, guards-only, guards-index, guards-index-ready, guards-ready, packed-as, carried-words, work-words, heads, padded, ready-number, of-channel, of-choice, progress-words, next-link, if-head, head-link, batch-link, header-words, pack, word-of-core, word-of-process}
 use Rattle.rules.specs.UsedWords.{guards-used, used-by, used-words}
 use Rattle.rules.specs.Soundness.{is-process, in-queues}
 use Rattle.rules.specs.Claims.{UnusedOfCore, batches-headed, UnusedOfProcess, UnusedWordsZero}
 use Rattle.rules.proofs.Tests.{or-left, or-right, eqb-means, within-means}
 use Rattle.rules.proofs.Sums.{total-zero}
 use Rattle.rules.proofs.QueueLists.{follows-none, no-next, heads-none}
-use Rattle.rules.proofs.Packing.ReadLaws.{core-list, header-list, read-header, read-core}
-use Rattle.rules.proofs.Packing.Reading.{progress-word, link-word, spare-word}
+use Rattle.rules.proofs.Packing.Blocks.{pack-holds}
+use Rattle.rules.proofs.Packing.Reading.{queue-words, work-word, queue-word, progress-word, link-word, spare-word}
 
 -- zeros are read where nothing but zeros stands
 zeros : (n i : ℕ) → getD (padded n []) i 0 ≡ 0
@@ -37,13 +37,17 @@ behind (x ∷ l) n (suc i) b = behind l n i (omega arith)
 unused-of-core : (s : State) (k : ℕ) → k < length (s .cores) → UnusedOfCore (core-of s k) (word-of-core (pack s) k)
 unused-of-core s k b =
     let c = core-of s k in
-    let at : (f : ℕ) → f < core-stride → word-of-core (pack s) k f ≡ getD (core-list c) f 0 = λ f. read-core s k f b in
+    let work = work-word s k b in
+    let queues = queue-word s k b in
     record {
-      spare = λ f low high. at f high ∙ behind (take core-spare (core-list c)) (core-stride - core-spare) f low;
-      task = λ p e. (at core-task (lit< tt) ∙ ap (λ w. getD (work-words w) core-task 0) e, at core-task-process (lit< tt) ∙ ap (λ w. getD (work-words w) core-task-process 0) e);
-      task-process = λ e. at core-task-process (lit< tt) ∙ ap (λ w. getD (work-words w) core-task-process 0) e;
-      active = λ e. (at core-first (lit< tt) ∙ ap first e, at core-last (lit< tt) ∙ ap last e, at core-size (lit< tt) ∙ ap length e);
-      run-queue = λ e. (at core-first-head (lit< tt) ∙ ap (λ l. first (heads l)) e, at core-last-head (lit< tt) ∙ ap (λ l. last (heads l)) e);
+      spare = λ f low high.
+          let e : core-first + (f - core-first) ≡ f = omega arith in
+          rw (← e) (queues (f - core-first) (omega arith)
+          ∙ behind (take (core-spare - core-first) (queue-words c)) (core-stride - core-spare) (f - core-first) (omega arith));
+      task = λ p e. (work core-task (lit< tt) ∙ ap (λ w. getD (work-words w) core-task 0) e, work core-task-process (lit< tt) ∙ ap (λ w. getD (work-words w) core-task-process 0) e);
+      task-process = λ e. work core-task-process (lit< tt) ∙ ap (λ w. getD (work-words w) core-task-process 0) e;
+      active = λ e. (queues 0 (lit< tt) ∙ ap first e, queues (core-last - core-first) (lit< tt) ∙ ap last e, queues (core-size - core-first) (lit< tt) ∙ ap length e);
+      run-queue = λ e. (queues (core-first-head - core-first) (lit< tt) ∙ ap (λ l. first (heads l)) e, queues (core-last-head - core-first) (lit< tt) ∙ ap (λ l. last (heads l)) e);
     }
 
 -- A progress: its words have one of two shapes
@@ -146,8 +150,9 @@ unused-of-process s p there =
 
 -- Words that mean nothing are 0.
 pub unused-words-zero : UnusedWordsZero
+unfolding header-words
 unused-words-zero = record {
-  header = λ s f low high. read-header s f high ∙ behind (take header-spare (header-list s)) (header-size - header-spare) f low;
+  header = λ s f low high. pack-holds s .header f high ∙ behind (take header-spare (header-words s)) (header-size - header-spare) f low;
   cores = unused-of-core;
   processes = unused-of-process;
 }

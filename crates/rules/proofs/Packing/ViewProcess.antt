@@ -63,8 +63,7 @@ use Rattle.rules.proofs.Packing.Blocks.{length-progress-words}
 use Rattle.rules.proofs.Tabulate.{tabulate-back}
 use Rattle.rules.proofs.Tests.{both, three, within-means, not-zero}
 use Rattle.rules.proofs.Packing.Reflect.{Valid}
-use Rattle.rules.proofs.Packing.ReadLaws.{state-words}
-use Rattle.rules.proofs.Packing.Reading.{bit-back, state-word, progress-word}
+use Rattle.rules.proofs.Packing.Reading.{bit-back, state-words, state-word, progress-word}
 
 -- a place is read back from its number
 place-back : (x : Place) → place-numbered (place-number x) ≡ x
