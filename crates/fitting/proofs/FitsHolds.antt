@@ -37,8 +37,7 @@ use Rattle.rules.proofs.Tabulate.{tabulate-at}
 use Rattle.rules.proofs.Packing.Reflect.{Valid, valid-means}
 use Rattle.rules.proofs.Sums.{positive-term}
 use Rattle.rules.proofs.Packing.Chains.{next-follows, batch-follows}
-use Rattle.rules.proofs.Packing.ReadLaws.{state-words, link-words}
-use Rattle.rules.proofs.Packing.ViewCore.{queue-words}
+use Rattle.rules.proofs.Packing.Reading.{state-words, link-words, queue-words}
 use Rattle.fitting.proofs.Walks.{next-of, batch-of, batch-behind}
 use Rattle.fitting.proofs.CoreWalks.{chain-first, heads-of, heads-are}
 use Rattle.fitting.proofs.Views.{cores-of-view, processes-of-view, channels-of-view, core-of-view, process-of-view, channel-of-view}

@@ -15,7 +15,7 @@ use Rattle.rules.specs.Layout.{process-at}
 use Rattle.rules.specs.Packing.{place-number, progress-words, K-of, N-of, M-of, word-of-process, place-numbered, view-process, view}
 use Rattle.rules.specs.Soundness.{valid-progress, fits, stands}
 use Rattle.rules.proofs.Tests.{both, together, within-means}
-use Rattle.rules.proofs.Packing.ReadLaws.{state-words}
+use Rattle.rules.proofs.Packing.Reading.{state-words}
 use Rattle.fitting.proofs.Tests.{bit-means, bit-holds, zeros-mean, zeros-hold, six, all-six}
 use Rattle.fitting.proofs.FitsProgress.{progress-exact, places-are}
 use Rattle.fitting.specs.Twin.{word, zeros, place-fits, meeting-fits, progress-fits, process-fits}

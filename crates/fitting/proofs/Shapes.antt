@@ -45,9 +45,10 @@ use Rattle.rules.specs.State.{
   due,
   Wiring,
 }
-use Rattle.rules.specs.Packing.{place-number, request-words, progress-words, progress-numbered}
+use Rattle.rules.specs.Packing.{place-number, request-words, progress-words, progress-list, progress-numbered}
 use Rattle.rules.specs.Soundness.{is-process, own-end, own-guards, in-list, ready-in-list, valid-progress, fits}
 use Rattle.rules.proofs.Tests.{within-means}
+use Rattle.rules.proofs.Packing.Numbered.{progress-by-place}
 use Rattle.fitting.proofs.Tests.{and-true}
 use Rattle.fitting.specs.Twin.{is-sender, is-receiver, has-partner, has-guards, has-index, has-ready, place-fits}
 
@@ -119,7 +120,7 @@ module _ (w : Wiring) (p c q : ℕ) (gs : List ℕ) (i : ℕ) (r : Option ℕ) w
 
   -- The progress of each number has its shape, and what is no number of one is read as nothing.
   pub shape-of : (n : ℕ) → (n ≤ 23 → Shape n (progress-numbered n c q gs i r)) × (24 ≤ n → progress-numbered n c q gs i r ≡ nothing)
-  unfolding progress-numbered progress-words
+  unfolding progress-words
   shape-of n =
       let found = shape-at (row (record { words = refl; valid = refl; places = fits-nothing })
       (row (stage 1 tt (look sending c) refl (simp and-true))
@@ -146,4 +147,5 @@ module _ (w : Wiring) (p c q : ℕ) (gs : List ℕ) (i : ℕ) (r : Option ℕ) w
       (row (outcome 22 tt (got c) refl (simp and-true))
       (row (outcome 23 tt (chose c) refl (simp and-true))
       end)))))))))))))))))))))))) n in
-      (λ b. subst (λ (m : ℕ). Shape m (progress-numbered n c q gs i r)) (zero-add n) (found .0 (omega arith)), found .1)
+      rw (progress-by-place n c q gs i r)
+      (λ b. subst (λ (m : ℕ). Shape m (getD (progress-list c q gs i r) n nothing)) (zero-add n) (found .0 (omega arith)), found .1)

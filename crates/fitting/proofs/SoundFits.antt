@@ -33,9 +33,7 @@ use Rattle.rules.proofs.Tests.{both, four, within-means, all-at}
 use Rattle.rules.proofs.Packing.Reflect.{Valid, valid-means}
 use Rattle.rules.proofs.Sums.{positive-term}
 use Rattle.rules.proofs.Packing.Chains.{queue-of, queue-among, next-follows, heads-among, batch-follows, heads-in-core, queued-once, queued-range}
-use Rattle.rules.proofs.Packing.ReadLaws.{state-words, link-words}
-use Rattle.rules.proofs.Packing.Reading.{state-word, progress-word, link-word}
-use Rattle.rules.proofs.Packing.ViewCore.{queue-words, work-word, queue-word}
+use Rattle.rules.proofs.Packing.Reading.{state-word, progress-word, link-word, state-words, link-words, queue-words, work-word, queue-word}
 use Rattle.fitting.proofs.Exact.{Apart}
 use Rattle.fitting.proofs.Walks.{Linked, next-of, batch-of, batch-behind, Batch}
 use Rattle.fitting.proofs.CoreWalks.{standing, load, CoreFits, chain-first, heads-of, heads-are}
@@ -133,13 +131,13 @@ module _ (t : List ℕ) (good : T (valid (view t))) (packed : pack (view t) ≡ 
     work-words-are : (f : ℕ) → f < 3 → word-of-core t k f ≡ getD (work-words (view-core t k .work)) f 0
     work-words-are f d =
         subst (λ (u : List ℕ). word-of-core u k f ≡ getD (work-words (view-core t k .work)) f 0) packed
-        (work-word s v k inside f d ∙ ap (λ (x : Core). getD (work-words (x .work)) f 0) core)
+        (work-word s k inside f d ∙ ap (λ (x : Core). getD (work-words (x .work)) f 0) core)
 
     -- the words behind its work
     queue-words-are : (f : ℕ) → f < 13 → word-of-core t k (3 + f) ≡ getD (queue-words (view-core t k)) f 0
     queue-words-are f d =
         subst (λ (u : List ℕ). word-of-core u k (3 + f) ≡ getD (queue-words (view-core t k)) f 0) packed
-        (queue-word s v k inside f d ∙ ap (λ (x : Core). getD (queue-words x) f 0) core)
+        (queue-word s k inside f d ∙ ap (λ (x : Core). getD (queue-words x) f 0) core)
 
     -- its words that belong to no queue
     flat : FlatCore w t k

@@ -19,7 +19,8 @@ use Rattle.packing.proofs.Focus.{writes, below}
 use Rattle.rules.proofs.Packing.Blocks.{second-part}
 use Rattle.rules.proofs.Tests.{three, all-at}
 use Rattle.rules.proofs.Tabulate.{tabulate-at}
-use Rattle.rules.proofs.Packing.ReadLaws.{alternation-words, padded-listed}
+use Rattle.rules.proofs.Packing.Reading.{alternation-words}
+use Rattle.packing.proofs.ReadLaws.{padded-listed}
 use Rattle.packing.proofs.WriteLaws.{nth-set-same}
 use Rattle.parts.specs.Does.{At}
 use Rattle.parts.proofs.Card.{own-end-range, runs-range}

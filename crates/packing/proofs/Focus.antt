@@ -1,4 +1,5 @@
--- A table whose words are known but for one block in focus, a list: what it holds after words of that block are written.
+-- What a table holds after a word is written; and where its words are known but for one block in focus, a list, after words of that block
+-- are written.
 use Prim.Native.Nat.{ℕ, suc, _+_, _≤_, _<_}
 use mathlib.Core.Path.{_≡_, refl, sym, ap, _∙_}
 use mathlib.Core.Bool.{Bool, true, false}
@@ -7,12 +8,43 @@ use native.Mathlib.Omega.{arith}
 use native.Mathlib.Nat.{zero-add}
 use lib.Dec.{T, eqb, ltb, ltb→lt}
 use lib.ListN.{length, getD, set, length-set, length-append}
-use lib.Seq.{set-append-left}
+use lib.Seq.{getD-set-same, getD-set-other, set-append-left}
 use borrow.Author.Tests.{eqb-true, eqb-false, lt-ltb, ne-eqb}
 use Rattle.rules.specs.Lists.{if_then_else_, all}
-use Rattle.rules.specs.Layout.{room, core-at, process-at, channel-at}
+use Rattle.rules.specs.Layout.{core-stride, process-stride, channel-stride, core-at, process-at, channel-at, room}
 use Rattle.rules.proofs.Tests.{same-test, apart, here-or-there, both}
-use Rattle.rules.proofs.Packing.Regions.{Dims, Words, Holds, Same, getD-set, holds-set, written}
+use Rattle.rules.proofs.Packing.Regions.{Dims, Words, Holds, Same}
+
+-- One write
+
+-- w, but v at the address a
+abbrev pub written : Dims → ℕ → ℕ → Words → Words
+written d a v w =
+    record {
+      header = λ f. if eqb f a then v else w .header f;
+      core = λ k f. if eqb (core-at k f) a then v else w .core k f;
+      process = λ p f. if eqb (process-at (d .K) p f) a then v else w .process p f;
+      channel = λ c f. if eqb (channel-at (d .K) (d .N) c f) a then v else w .channel c f;
+    }
+
+-- one word of a list after another was written
+getD-set : (t : List ℕ) (a v i x : ℕ) → a < length t → getD t i 0 ≡ x → getD (set t a v) i 0 ≡ (if eqb i a then v else x)
+getD-set t a v i x inside e = cases (eqb i a) refl
+  where
+    cases : (b : Bool) → eqb i a ≡ b → getD (set t a v) i 0 ≡ (if b then v else x)
+    cases true q = ap (λ (j : ℕ). getD (set t a v) j 0) (eqb-true i a q) ∙ getD-set-same t a v 0 inside
+    cases false q = getD-set-other t a i v 0 (eqb-false i a q) ∙ e
+
+-- What a table holds after one word is written.
+pub holds-set : (d : Dims) (w : Words) (t : List ℕ) (a v : ℕ) → Holds d w t → a < length t → Holds d (written d a v w) (set t a v)
+holds-set d w t a v h inside =
+    record {
+      size = length-set t a v ∙ h .size;
+      header = λ f b. getD-set t a v f (w .header f) inside (h .header f b);
+      core = λ k f b b′. getD-set t a v (core-at k f) (w .core k f) inside (h .core k f b b′);
+      process = λ p f l b b′. getD-set t a v (process-at (d .K) p f) (w .process p f) inside (h .process p f l b b′);
+      channel = λ c f l b b′. getD-set t a v (channel-at (d .K) (d .N) c f) (w .channel c f) inside (h .channel c f l b b′);
+    }
 
 -- Several writes
 
@@ -68,9 +100,9 @@ pub data Region : Type 0 where
 
 -- how many words a block of a region has
 abbrev pub size-in : Region → ℕ
-size-in cores = 16
-size-in processes = 24
-size-in channels = 4
+size-in cores = core-stride
+size-in processes = process-stride
+size-in channels = channel-stride
 
 -- j is the number of a block
 abbrev pub Has : Dims → Region → ℕ → Type 0

@@ -1,3 +1,4 @@
+pub mod ReadLaws
 pub mod States
 pub mod Focus
 pub mod Links

@@ -8,10 +8,10 @@ use lib.ListN.{length}
 use Rattle.rules.specs.Lists.{if_then_else_, within, all, total, times, first, last, follows}
 use Rattle.rules.specs.State.{Core, State}
 use Rattle.rules.specs.Items.{core-of, put, core}
-use Rattle.rules.specs.Layout.{process-at, core-at}
+use Rattle.rules.specs.Layout.{core-at, process-at, core-first, core-last, core-size, core-first-head, core-last-head, process-last, process-size, process-next-head}
 use Rattle.rules.specs.Packing.{heads, if-head, word-at, head-link, batch-link, pack}
 use Rattle.packing.specs.Queues.{load-writes, load-table, with-queues, Queued}
-use Rattle.rules.proofs.Packing.ReadLaws.{read-core, read-process}
+use Rattle.packing.proofs.ReadLaws.{read-core, read-process}
 use Rattle.rules.proofs.Tests.{here-or-there, both}
 use Rattle.rules.proofs.QueueLists.{follows-first, follows-rest, if-head-first, if-head-other, no-head, no-next-head}
 use Rattle.packing.proofs.Links.{
@@ -34,15 +34,15 @@ module _ (s : State) (k p : ℕ) (more : List ℕ) (rest : List (List ℕ)) (ins
   -- the law below for a batch with the first process p
   load-first : load-table (pack s) (length (s .cores)) k ≡ pack (put core k (with-queues (p ∷ more) rest (core-of s k)) s)
   load-first =
-      ap (λ x. load-writes x (word-at t (process-at K x 21)) (word-at t (process-at K x 22)) (word-at t (process-at K x 23))
-      (word-at t (core-at k 9)) t K k)
-      (read-core s k 8 inside (lit< tt) ∙ ap (λ r. first (heads r)) e′)
+      ap (λ x. load-writes x (word-at t (process-at K x process-last)) (word-at t (process-at K x process-size)) (word-at t (process-at K x process-next-head))
+      (word-at t (core-at k core-last-head)) t K k)
+      (read-core s k core-first-head inside (lit< tt) ∙ ap (λ r. first (heads r)) e′)
       ∙ (λ i. load-writes p (last-read i) (size-read i) (next-head-read i)
-      ((read-core s k 9 inside (lit< tt) ∙ ap (λ r. last (heads r)) e′) i) t K k)
+      ((read-core s k core-last-head inside (lit< tt) ∙ ap (λ r. last (heads r)) e′) i) t K k)
       ∙ held-last s k c′ _ _ _ inside
-      (held-own s k inside 23 p 0 tt stands (held-own s k inside 22 p 0 tt stands (held-own s k inside 21 p 0 tt stands
-      (held-core s k inside 9 _ tt (held-core s k inside 8 _ tt (held-core s k inside 5 _ tt (held-core s k inside 4 _ tt
-      (held-core s k inside 3 p tt (held-first s k inside)))))))))
+      (held-own s k inside process-next-head p 0 tt stands (held-own s k inside process-size p 0 tt stands (held-own s k inside process-last p 0 tt stands
+      (held-core s k inside core-last-head _ tt (held-core s k inside core-first-head _ tt (held-core s k inside core-size _ tt (held-core s k inside core-last _ tt
+      (held-core s k inside core-first p tt (held-first s k inside)))))))))
       (queue-entries c (p ∷ more) rest refl refl refl refl (last-rest _ p (heads rest) among))
       (record {
         next = λ i low high. next-kept s k c′ inside i (omega (arith, ap (follows i) e, ap (total (follows i)) e′));
@@ -82,15 +82,15 @@ module _ (s : State) (k p : ℕ) (more : List ℕ) (rest : List (List ℕ)) (ins
           ∙ omega (arith, ap (total (if-head f p)) e′, if-head-first f p more, no-head f p rest (stands .low) none)
 
       -- what is read of it in the table
-      last-read : word-at t (process-at K p 21) ≡ last (p ∷ more)
-      last-read = read-process s p 21 (stands .low) (stands .high) (lit< tt) ∙ kept last
+      last-read : word-at t (process-at K p process-last) ≡ last (p ∷ more)
+      last-read = read-process s p process-last (stands .low) (stands .high) (lit< tt) ∙ kept last
 
-      size-read : word-at t (process-at K p 22) ≡ length (p ∷ more)
-      size-read = read-process s p 22 (stands .low) (stands .high) (lit< tt) ∙ kept length
+      size-read : word-at t (process-at K p process-size) ≡ length (p ∷ more)
+      size-read = read-process s p process-size (stands .low) (stands .high) (lit< tt) ∙ kept length
 
-      next-head-read : word-at t (process-at K p 23) ≡ first (heads rest)
+      next-head-read : word-at t (process-at K p process-next-head) ≡ first (heads rest)
       next-head-read =
-          read-process s p 23 (stands .low) (stands .high) (lit< tt)
+          read-process s p process-next-head (stands .low) (stands .high) (lit< tt)
           ∙ next-head-kept s k c inside p refl
           ∙ next-head-alone s k c inside p stands
           ∙ ap (λ r. follows p (heads r)) e′

@@ -8,9 +8,10 @@ use lib.ListN.{length, length-append}
 use Rattle.rules.specs.Lists.{within, all, total, times, last, follows}
 use Rattle.rules.specs.State.{Core, State}
 use Rattle.rules.specs.Items.{core-of, put, core}
+use Rattle.rules.specs.Layout.{core-first, core-last, core-size, process-next}
 use Rattle.rules.specs.Packing.{next-link, pack}
 use Rattle.packing.specs.Queues.{push-writes, push-table, with-queues, Queued}
-use Rattle.rules.proofs.Packing.ReadLaws.{read-core}
+use Rattle.packing.proofs.ReadLaws.{read-core}
 use Rattle.rules.proofs.Tests.{here-or-there}
 use Rattle.rules.proofs.QueueLists.{follows-more, follows-last, last-append, times-last, no-next}
 use Rattle.packing.proofs.Links.{
@@ -32,10 +33,10 @@ pub push-law : (s : State) (k q : ℕ) → k < length (s .cores) → Queued s
     → push-table (pack s) (length (s .cores)) k q
     ≡ pack (put core k (with-queues (core-of s k .active ++ (q ∷ [])) (core-of s k .run-queue) (core-of s k)) s)
 push-law s k q inside queued =
-    ap₂ (λ l n. push-writes l n (pack s) (length (s .cores)) k q) (read-core s k 4 inside (lit< tt)) (read-core s k 5 inside (lit< tt))
+    ap₂ (λ l n. push-writes l n (pack s) (length (s .cores)) k q) (read-core s k core-last inside (lit< tt)) (read-core s k core-size inside (lit< tt))
     ∙ held-last s k c′ _ _ _ inside
-    (held-core s k inside 5 (length l + 1) tt (held-core s k inside 4 q tt
-    (held-end s k inside 3 20 a q tt tt bound (held-first s k inside))))
+    (held-core s k inside core-size (length l + 1) tt (held-core s k inside core-last q tt
+    (held-end s k inside core-first process-next a q tt tt bound (held-first s k inside))))
     (queue-entries c (l ++ (q ∷ [])) r (first-more _ q l [] among) (sym (last-append l q [])) (sym (length-append l (q ∷ []))) refl refl)
     (record {
       next = λ p low high. here-or-there a p q _ (λ p. next-link (put core k c′ s) p) (λ e. sym (linked (omega arith)))

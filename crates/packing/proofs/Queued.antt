@@ -4,12 +4,12 @@ use mathlib.Core.Path.{_≡_, refl, sym, ap, subst, subst₂}
 use mathlib.Core.Bool.{Bool, true, false, _&&_}
 use mathlib.Core.List.{List, [], _∷_, _++_}
 use native.Mathlib.Omega.{arith}
-use lib.Dec.{T, eqb, leb, eqb→eq, le→leb}
+use lib.Dec.{T, eqb, leb, le→leb}
 use lib.ListN.{length, getD, set, length-set}
 use lib.Seq.{getD-set-same, getD-set-other}
 use borrow.Author.Tests.{eqb-true, eqb-false}
 use Rattle.rules.specs.Lists.{within, all, total, from, bit, times}
-use Rattle.rules.specs.State.{Place, running, queued, asleep, ended, Core, queues-of, State, wiring}
+use Rattle.rules.specs.State.{Core, queues-of, State, wiring}
 use Rattle.rules.specs.Items.{
   Kind,
   core,
@@ -22,14 +22,14 @@ use Rattle.rules.specs.Items.{
   Val,
   no-core,
   core-of,
-  process-of,
   put,
 }
 use Rattle.rules.specs.SetUp.{sizes}
-use Rattle.rules.specs.Soundness.{in-queues, on-cores, stands, valid-process, valid-work, not-empty, valid-core, valid-channel, valid}
+use Rattle.rules.specs.Soundness.{in-queues, valid-process, valid-work, not-empty, valid-core, valid-channel, valid}
 use Rattle.packing.specs.Queues.{with-queues, Queued}
 use Rattle.rules.proofs.Tests.{both, together, all-at, all-append, all-one}
 use Rattle.rules.proofs.Packing.Reflect.{valid-means}
+use Rattle.rules.proofs.Packing.Chains.{queued-once}
 use Rattle.rules.proofs.Packing.Regions.{Dims}
 use Rattle.packing.proofs.States.{dims-put}
 use Rattle.rules.proofs.Sums.{total-set, total-append, times-append}
@@ -37,13 +37,6 @@ use Rattle.packing.proofs.Links.{times-in}
 use Rattle.packing.proofs.Standing.{active-among, batches-among}
 
 -- Valid states
-
--- a process stands in queues no more than once, whatever its place
-once-where : (cores queues : ℕ) (x : Place) → T (stands cores queues x) → queues ≤ 1
-once-where cores queues running h = omega (arith, eqb→eq queues 0 (both (eqb cores 1) (eqb queues 0) h .1))
-once-where cores queues queued h = omega (arith, eqb→eq queues 1 (both (eqb cores 0) (eqb queues 1) h .1))
-once-where cores queues asleep h = omega (arith, eqb→eq queues 0 (both (eqb cores 0) (eqb queues 0) h .1))
-once-where cores queues ended h = omega (arith, eqb→eq queues 0 (both (eqb cores 0) (eqb queues 0) h .1))
 
 -- A valid state has its queues in order.
 pub valid-queued : (s : State) → T (valid s) → Queued s
@@ -55,7 +48,7 @@ valid-queued s h =
           let c = core-of s k in
           both (valid-work (wiring s) (c .work) && leb (c .dispatch) 32) _
           (both (all-but-members c) (all (all (within 1 (length (s .processes)))) (queues-of c)) (at-core k inside) .0) .1;
-      once = λ p low high. once-where (on-cores s p) (in-queues s p) (process-of s p .place) (valid-means s h .processes p low high .standing);
+      once = λ p low high. queued-once s (valid-means s h) p;
     }
   where
     size-tests : Bool

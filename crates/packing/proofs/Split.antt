@@ -9,10 +9,10 @@ use borrow.Author.Tests.{eq-eqb}
 use Rattle.rules.specs.Lists.{if_then_else_, total, bit, times, first, last, follows}
 use Rattle.rules.specs.State.{Core, State}
 use Rattle.rules.specs.Items.{core-of, put, core}
-use Rattle.rules.specs.Layout.{process-at, core-at}
+use Rattle.rules.specs.Layout.{core-at, process-at, core-first, core-last, core-size, core-last-head, process-next, process-last, process-size, process-next-head}
 use Rattle.rules.specs.Packing.{heads, if-head, word-at, next-link, head-link, batch-link, pack}
 use Rattle.packing.specs.Queues.{split-writes, split-table, with-queues, Queued}
-use Rattle.rules.proofs.Packing.ReadLaws.{read-core}
+use Rattle.packing.proofs.ReadLaws.{read-core}
 use Rattle.rules.proofs.Tests.{here-or-there}
 use Rattle.rules.proofs.Sums.{total-append, times-append, head-stands}
 use Rattle.rules.proofs.QueueLists.{times-last, times-heads, follows-none, follows-single, follows-rest, follows-more, follows-last, last-append, heads-append, if-head-first, if-head-other, no-next, no-head}
@@ -37,14 +37,14 @@ pub split-law : (s : State) (k p q : ℕ) (rest : List ℕ) → k < length (s .c
     → split-table (pack s) (length (s .cores)) k
     ≡ pack (put core k (with-queues [] (core-of s k .run-queue ++ ((p ∷ []) ∷ ((q ∷ rest) ∷ []))) (core-of s k)) s)
 split-law s k p q rest inside queued e =
-    ap (λ x. split-writes x (word-at t (process-at K x 20)) (word-at t (core-at k 4)) (word-at t (core-at k 5)) (word-at t (core-at k 9))
+    ap (λ x. split-writes x (word-at t (process-at K x process-next)) (word-at t (core-at k core-last)) (word-at t (core-at k core-size)) (word-at t (core-at k core-last-head))
     t K k)
-    (read-core s k 3 inside (lit< tt) ∙ ap first e)
-    ∙ (λ i. split-writes p (next-read s k p (q ∷ rest) inside queued e i) ((read-core s k 4 inside (lit< tt) ∙ ap last e) i)
-    ((read-core s k 5 inside (lit< tt) ∙ ap length e) i) (read-core s k 9 inside (lit< tt) i) t K k)
+    (read-core s k core-first inside (lit< tt) ∙ ap first e)
+    ∙ (λ i. split-writes p (next-read s k p (q ∷ rest) inside queued e i) ((read-core s k core-last inside (lit< tt) ∙ ap last e) i)
+    ((read-core s k core-size inside (lit< tt) ∙ ap length e) i) (read-core s k core-last-head inside (lit< tt) i) t K k)
     ∙ stored s k p [] ((q ∷ rest) ∷ []) _ _ inside queued
-    (held-own s k inside 22 q _ tt second (held-own s k inside 21 q _ tt second (held-own s k inside 23 p _ tt stands
-    (held-own s k inside 22 p _ tt stands (held-own s k inside 21 p _ tt stands (held-own s k inside 20 p 0 tt stands
+    (held-own s k inside process-size q _ tt second (held-own s k inside process-last q _ tt second (held-own s k inside process-next-head p _ tt stands
+    (held-own s k inside process-size p _ tt stands (held-own s k inside process-last p _ tt stands (held-own s k inside process-next p 0 tt stands
     (held-first s k inside)))))))
     (record {
       next = λ i low high.

@@ -4,7 +4,7 @@ use mathlib.Core.Path.{_≡_, refl, ap, _∙_}
 use mathlib.Core.List.{List, [], _∷_, _++_}
 use native.Mathlib.Omega.{arith}
 use native.Mathlib.Nat.{le-trans}
-use lib.Dec.{T, eqb, leb, leb→le}
+use lib.Dec.{T, eqb}
 use lib.ListN.{length}
 use borrow.Author.Tests.{ne-eqb}
 use Rattle.rules.specs.Lists.{if_then_else_, within, all, total, times, first, last}
@@ -13,7 +13,7 @@ use Rattle.rules.specs.Items.{core-of, no-core}
 use Rattle.rules.specs.Packing.{heads}
 use Rattle.rules.specs.Soundness.{not-empty, in-queues}
 use Rattle.packing.specs.Queues.{Queued}
-use Rattle.rules.proofs.Tests.{both, together}
+use Rattle.rules.proofs.Tests.{both, together, within-means}
 use Rattle.rules.proofs.Sums.{term-le-total, head-stands}
 use Rattle.rules.proofs.QueueLists.{times-last, times-heads}
 use Rattle.packing.proofs.Links.{times-in, Stands}
@@ -22,13 +22,9 @@ use Rattle.packing.proofs.Links.{times-in, Stands}
 abbrev pub Among : ℕ → ℕ → Type 0
 Among n p = (1 ≤ p) × (p ≤ n)
 
--- as a test says it
-within-among : (n p : ℕ) → T (within 1 n p) → Among n p
-within-among n p h = (leb→le 1 p (both (leb 1 p) (leb p n) h .0), leb→le p n (both (leb 1 p) (leb p n) h .1))
-
 -- the first and the last of a list of such numbers are such
 pub first-among : (n x : ℕ) (l : List ℕ) → T (all (within 1 n) (x ∷ l)) → Among n x
-first-among n x l h = within-among n x (both (within 1 n x) (all (within 1 n) l) h .0)
+first-among n x l h = within-means 1 n x (both (within 1 n x) (all (within 1 n) l) h .0)
 
 last-among : (n x : ℕ) (l : List ℕ) → T (all (within 1 n) (x ∷ l)) → Among n (last (x ∷ l))
 last-among n x [] h = first-among n x [] h

@@ -1,12 +1,13 @@
 -- States with another core, process or channel: their numbers of each, and when a table is the packing of one.
 use Prim.Native.Nat.{ℕ, zero, suc}
 use mathlib.Core.Path.{_≡_, refl, sym, ap, subst}
-use mathlib.Core.List.{List, [], _∷_}
+use mathlib.Core.List.{List, _∷_}
 use lib.ListN.{length, length-set}
 use Rattle.rules.specs.Lists.{set-nth}
 use Rattle.rules.specs.State.{Process, Core, Channel, State}
 use Rattle.rules.specs.Items.{Kind, core, place, data-word, alternation, progress, channel-word, transfers, Val, put}
-use Rattle.rules.specs.Packing.{header-words, pack}
+use Rattle.rules.specs.Layout.{header-size, header-spare}
+use Rattle.rules.specs.Packing.{spare, header-words, pack}
 use Rattle.rules.proofs.Packing.Regions.{Dims, Words, Holds, Same, held-once}
 use Rattle.rules.proofs.Packing.Blocks.{dims, words-of, pack-holds}
 
@@ -50,4 +51,4 @@ packed s s′ w t e h same =
 -- the header has only the numbers of cores, processes and channels
 pub same-header : (s s′ : State) → dims s′ ≡ dims s → header-words s ≡ header-words s′
 unfolding header-words
-same-header s s′ e = ap (λ (d : Dims). d .K ∷ d .N ∷ d .M ∷ 0 ∷ 0 ∷ 0 ∷ 0 ∷ 0 ∷ []) (sym e)
+same-header s s′ e = ap (λ (d : Dims). d .K ∷ d .N ∷ d .M ∷ spare header-size header-spare) (sym e)

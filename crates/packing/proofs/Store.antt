@@ -8,9 +8,10 @@ use lib.ListN.{length}
 use Rattle.rules.specs.Lists.{if_then_else_, within, all, first, last, follows}
 use Rattle.rules.specs.State.{Core, State}
 use Rattle.rules.specs.Items.{core-of, put, core}
+use Rattle.rules.specs.Layout.{core-first, core-last, core-size, core-first-head, core-last-head, process-last, process-size, process-next-head}
 use Rattle.rules.specs.Packing.{heads, if-head, head-link, batch-link, pack}
 use Rattle.packing.specs.Queues.{store-heads, store-writes, store-table, with-queues, Queued}
-use Rattle.rules.proofs.Packing.ReadLaws.{read-core, core-list}
+use Rattle.packing.proofs.ReadLaws.{read-core, core-list}
 use Rattle.rules.proofs.Tests.{here-or-there}
 use Rattle.rules.proofs.Sums.{total-append}
 use Rattle.rules.proofs.QueueLists.{follows-more, follows-last, last-append, heads-append, if-head-first, if-head-other, no-head}
@@ -44,14 +45,14 @@ use Rattle.packing.proofs.Standing.{
 -- Once the links of new batches are written, the first of them with the head p, `store-heads` puts them at the end of the run queue.
 pub stored : (s : State) (k p : ℕ) (l : List ℕ) (more : List (List ℕ)) (L : ℕ → ℕ → ℕ) (t : List ℕ) → k < length (s .cores) → Queued s
     → Held s k (core-list (core-of s k)) L t
-    → Linked (length (s .processes)) (write-link 23 (last (heads (core-of s k .run-queue))) p L)
+    → Linked (length (s .processes)) (write-link process-next-head (last (heads (core-of s k .run-queue))) p L)
     (put core k (with-queues [] (core-of s k .run-queue ++ ((p ∷ l) ∷ more)) (core-of s k)) s)
     → store-heads p (last (p ∷ heads more)) (last (heads (core-of s k .run-queue))) t (length (s .cores)) k
     ≡ pack (put core k (with-queues [] (core-of s k .run-queue ++ ((p ∷ l) ∷ more)) (core-of s k)) s)
 stored s k p l more L t inside queued held linked =
     held-last s k _ _ _ _ inside
-    (held-core s k inside 5 0 tt (held-core s k inside 4 0 tt (held-core s k inside 3 0 tt
-    (held-core s k inside 9 _ tt (held-end s k inside 8 23 b p tt tt (last-bound _ (heads r) among) held)))))
+    (held-core s k inside core-size 0 tt (held-core s k inside core-last 0 tt (held-core s k inside core-first 0 tt
+    (held-core s k inside core-last-head _ tt (held-end s k inside core-first-head process-next-head b p tt tt (last-bound _ (heads r) among) held)))))
     (queue-entries (core-of s k) [] (r ++ ((p ∷ l) ∷ more)) refl refl refl
     (first-more _ p (heads r) (heads more) among ∙ ap first (sym (heads-append r ((p ∷ l) ∷ more))))
     (sym (ap last (heads-append r ((p ∷ l) ∷ more)) ∙ last-append (heads r) p (heads more))))
@@ -72,11 +73,11 @@ module _ (s : State) (k p : ℕ) (rest : List ℕ) (inside : k < length (s .core
   pub store-law : store-table (pack s) (length (s .cores)) k
       ≡ pack (put core k (with-queues [] (core-of s k .run-queue ++ ((p ∷ rest) ∷ [])) (core-of s k)) s)
   store-law =
-      (λ i. store-writes ((read-core s k 3 inside (lit< tt) ∙ ap first e) i) ((read-core s k 4 inside (lit< tt) ∙ ap last e) i)
-      ((read-core s k 5 inside (lit< tt) ∙ ap length e) i) (read-core s k 9 inside (lit< tt) i) (pack s) (length (s .cores)) k)
+      (λ i. store-writes ((read-core s k core-first inside (lit< tt) ∙ ap first e) i) ((read-core s k core-last inside (lit< tt) ∙ ap last e) i)
+      ((read-core s k core-size inside (lit< tt) ∙ ap length e) i) (read-core s k core-last-head inside (lit< tt) i) (pack s) (length (s .cores)) k)
       ∙ stored s k p rest [] _ _ inside queued
-      (held-own s k inside 22 p (length (p ∷ rest)) tt stands
-      (held-own s k inside 21 p (last (p ∷ rest)) tt stands (held-first s k inside)))
+      (held-own s k inside process-size p (length (p ∷ rest)) tt stands
+      (held-own s k inside process-last p (last (p ∷ rest)) tt stands (held-first s k inside)))
       (record {
         next = λ i low high. next-kept s k c′ inside i (omega (arith, ap (follows i) e, total-append (follows i) r ((p ∷ rest) ∷ [])));
         batch-last = λ i low high. head-moved last i;

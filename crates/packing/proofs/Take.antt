@@ -8,10 +8,10 @@ use lib.ListN.{length}
 use Rattle.rules.specs.Lists.{within, all, total, first, last, follows}
 use Rattle.rules.specs.State.{Core, State}
 use Rattle.rules.specs.Items.{core-of, put, core}
-use Rattle.rules.specs.Layout.{process-at, core-at}
+use Rattle.rules.specs.Layout.{core-at, process-at, core-first, core-last, core-size, process-next}
 use Rattle.rules.specs.Packing.{word-at, next-link, pack}
 use Rattle.packing.specs.Queues.{take-writes, take-table, with-queues, Queued}
-use Rattle.rules.proofs.Packing.ReadLaws.{read-core, read-process}
+use Rattle.packing.proofs.ReadLaws.{read-core, read-process}
 use Rattle.rules.proofs.Tests.{here-or-there, both}
 use Rattle.rules.proofs.QueueLists.{follows-none, follows-first, follows-rest, no-next}
 use Rattle.packing.proofs.Links.{
@@ -32,11 +32,11 @@ use Rattle.packing.proofs.Standing.{first-stands, first-once, active-am
 module _ (s : State) (k p : ℕ) (rest : List ℕ) (inside : k < length (s .cores)) (queued : Queued s)
     (e : core-of s k .active ≡ p ∷ rest) where
   -- who is next in the table is next in the queue
-  pub next-read : word-at (pack s) (process-at (length (s .cores)) p 20) ≡ first rest
+  pub next-read : word-at (pack s) (process-at (length (s .cores)) p process-next) ≡ first rest
   next-read =
       let stands : Stands s k p = first-stands s k inside queued p rest e in
       let next : follows p (core-of s k .active) ≡ first rest = ap (follows p) e ∙ follows-first p rest in
-      read-process s p 20 (stands .low) (stands .high) (lit< tt)
+      read-process s p process-next (stands .low) (stands .high) (lit< tt)
       ∙ next-kept s k (core-of s k) inside p refl
       ∙ next-alone s k (core-of s k) inside p stands
       ∙ omega (arith, no-next p (core-of s k .run-queue) (first-once s k inside queued p rest e .1))
@@ -45,13 +45,13 @@ module _ (s : State) (k p : ℕ) (rest : List ℕ) (inside : k < length (s .core
   pub take-law : take-table (pack s) (length (s .cores)) k
       ≡ pack (put core k (with-queues rest (core-of s k .run-queue) (core-of s k)) s)
   take-law =
-      ap (λ x. take-writes x (word-at t (process-at K x 20)) (word-at t (core-at k 4)) (word-at t (core-at k 5)) t K k)
-      (read-core s k 3 inside (lit< tt) ∙ ap first e)
-      ∙ (λ i. take-writes p (next-read i) ((read-core s k 4 inside (lit< tt) ∙ ap last e) i)
-      ((read-core s k 5 inside (lit< tt) ∙ ap length e) i) t K k)
+      ap (λ x. take-writes x (word-at t (process-at K x process-next)) (word-at t (core-at k core-last)) (word-at t (core-at k core-size)) t K k)
+      (read-core s k core-first inside (lit< tt) ∙ ap first e)
+      ∙ (λ i. take-writes p (next-read i) ((read-core s k core-last inside (lit< tt) ∙ ap last e) i)
+      ((read-core s k core-size inside (lit< tt) ∙ ap length e) i) t K k)
       ∙ held-last s k c′ _ _ _ inside
-      (held-own s k inside 20 p 0 tt stands
-      (held-core s k inside 5 _ tt (held-core s k inside 4 _ tt (held-core s k inside 3 (first rest) tt (held-first s k inside)))))
+      (held-own s k inside process-next p 0 tt stands
+      (held-core s k inside core-size _ tt (held-core s k inside core-last _ tt (held-core s k inside core-first (first rest) tt (held-first s k inside)))))
       (queue-entries c rest r refl (last-rest _ p rest among) (omega arith) refl refl)
       (record {
         next = λ i low high. here-or-there p i 0 _ (λ i. next-link (put core k c′ s) i) (λ q. sym (next-alone s k c′ inside p stands ∙ unlinked))

@@ -1,5 +1,5 @@
 -- Write laws: writes into one block of a packing give the packing of the state with another item.
-use Prim.Native.Nat.{ℕ, zero, suc, _+_, _≤_, _<_}
+use Prim.Native.Nat.{ℕ, zero, suc, _+_, _-_, _≤_, _<_}
 use mathlib.Core.Path.{_≡_, refl, sym, ap, _∙_, ap₂}
 use mathlib.Core.List.{List, [], _∷_, _++_}
 use native.Mathlib.Omega.{arith}
@@ -24,7 +24,7 @@ use Rattle.rules.specs.Items.{
   channel-word,
   transfers,
 }
-use Rattle.rules.specs.Layout.{core-at, process-at, channel-at}
+use Rattle.rules.specs.Layout.{core-stride, process-stride, channel-stride, core-at, process-at, channel-at, process-place, process-data, process-enabling, process-progress, progress-size, channel-holder, channel-transfers}
 use Rattle.rules.specs.Packing.{place-number, word-number, heads, if-head, core-words, progress-words, next-link, head-link, batch-link, process-words, channel-words, pack}
 use Rattle.rules.proofs.Packing.Regions.{Same}
 use Rattle.rules.proofs.Packing.Blocks.{
@@ -37,16 +37,8 @@ use Rattle.rules.proofs.Packing.Blocks.{
   length-progress-words,
 }
 use Rattle.packing.proofs.Links.{links-of, held-first, held-writes, held-last, next-kept, head-kept, next-head-kept}
-use Rattle.rules.proofs.Packing.ReadLaws.{
-  listed,
-  listed-same,
-  core-list,
-  alternation-words,
-  own-words,
-  link-words,
-  channel-list,
-  process-split,
-}
+use Rattle.rules.proofs.Packing.Reading.{alternation-words, rest-words}
+use Rattle.packing.proofs.ReadLaws.{listed, listed-same, core-list, own-words, channel-list, process-split}
 use Rattle.rules.proofs.Tests.{here-or-there}
 use Rattle.packing.proofs.States.{with-process, with-channel, dims-process, dims-channel, packed, same-header}
 use Rattle.packing.proofs.Focus.{
@@ -112,8 +104,8 @@ module _ {A : Type 0} where
 
 -- Writes that turn a process's own words into another's
 pub process-law : (s : State) (p : ℕ) (r : Process) (at : ℕ → ℕ) (ws : List (ℕ × ℕ))
-    → 1 ≤ p → p ≤ length (s .processes) → T (below 24 at ws)
-    → writes ws at (own-words (process-of s p) ++ link-words s p) ≡ own-words r ++ link-words s p
+    → 1 ≤ p → p ≤ length (s .processes) → T (below process-stride at ws)
+    → writes ws at (own-words (process-of s p) ++ rest-words s p) ≡ own-words r ++ rest-words s p
     → writes ws (λ f. process-at (length (s .cores)) p (at f)) (pack s) ≡ pack (with-process p r s)
 unfolding next-link head-link batch-link
 process-law s p r at ws low high b turned =
@@ -128,63 +120,63 @@ process-law s p r at ws low high b turned =
     })
     (ap (writes ws at) (process-split s p) ∙ turned ∙ sym here)
   where
-    here : process-words (with-process p r s) p ≡ own-words r ++ link-words s p
+    here : process-words (with-process p r s) p ≡ own-words r ++ rest-words s p
     here =
         process-split (with-process p r s) p
-        ∙ ap (λ (x : Process). own-words x ++ link-words s p) (nth-set-same (s .processes) p r no-process low high)
+        ∙ ap (λ (x : Process). own-words x ++ rest-words s p) (nth-set-same (s .processes) p r no-process low high)
 
     others : (i : ℕ) → (i ≡ p → ⊥) → process-words s i ≡ process-words (with-process p r s) i
     others i ne =
         process-split s i
-        ∙ ap (λ (x : Process). own-words x ++ link-words s i) (sym (nth-set-other (s .processes) p i r no-process ne))
+        ∙ ap (λ (x : Process). own-words x ++ rest-words s i) (sym (nth-set-other (s .processes) p i r no-process ne))
         ∙ sym (process-split (with-process p r s) i)
 
 -- Writes into n words that begin at word m, with the words a before them and z behind
 part-law : (s : State) (p : ℕ) (r : Process) (ws : List (ℕ × ℕ)) (a l l′ z : List ℕ) (m n : ℕ) → 1 ≤ p → p ≤ length (s .processes)
-    → length a ≡ m → length l ≡ n → m + n ≤ 24 → T (below n (λ j. j) ws) → writes ws (λ j. j) l ≡ l′
-    → own-words (process-of s p) ++ link-words s p ≡ a ++ l ++ z → a ++ l′ ++ z ≡ own-words r ++ link-words s p
+    → length a ≡ m → length l ≡ n → m + n ≤ process-stride → T (below n (λ j. j) ws) → writes ws (λ j. j) l ≡ l′
+    → own-words (process-of s p) ++ rest-words s p ≡ a ++ l ++ z → a ++ l′ ++ z ≡ own-words r ++ rest-words s p
     → writes ws (λ j. process-at (length (s .cores)) p (m + j)) (pack s) ≡ pack (with-process p r s)
 part-law s p r ws a l l′ z m n low high e e′ fits b turned before after =
-    process-law s p r (λ j. m + j) ws low high (below-shifted ws m n 24 fits b)
+    process-law s p r (λ j. m + j) ws low high (below-shifted ws m n process-stride fits b)
     (ap (writes ws (λ j. m + j)) before ∙ writes-inside ws a l z m n e e′ b ∙ ap (λ (l : List ℕ). a ++ l ++ z) turned ∙ after)
 
 module _ (s : State) (p : ℕ) (low : 1 ≤ p) (high : p ≤ length (s .processes)) where
-  -- word 0: place
-  pub put-place : (x : Place) → set (pack s) (process-at (length (s .cores)) p 0) (place-number x) ≡ pack (put place p x s)
-  put-place x = process-law s p _ (λ j. j) ((0, place-number x) ∷ []) low high tt refl
+  -- its place
+  pub put-place : (x : Place) → set (pack s) (process-at (length (s .cores)) p process-place) (place-number x) ≡ pack (put place p x s)
+  put-place x = process-law s p _ (λ j. j) ((process-place, place-number x) ∷ []) low high tt refl
 
-  -- word 1: data
-  pub put-data-word : (v : ℕ) → set (pack s) (process-at (length (s .cores)) p 1) v ≡ pack (put data-word p v s)
-  put-data-word v = process-law s p _ (λ j. j) ((1, v) ∷ []) low high tt refl
+  -- its data
+  pub put-data-word : (v : ℕ) → set (pack s) (process-at (length (s .cores)) p process-data) v ≡ pack (put data-word p v s)
+  put-data-word v = process-law s p _ (λ j. j) ((process-data, v) ∷ []) low high tt refl
 
-  -- words 2 to 5: alternation state
-  pub put-alternation : (v : Alternation) (ws : List (ℕ × ℕ)) → T (below 4 (λ j. j) ws)
+  -- its alternation state, which ends where its progress begins
+  pub put-alternation : (v : Alternation) (ws : List (ℕ × ℕ)) → T (below (process-progress - process-enabling) (λ j. j) ws)
       → writes ws (λ j. j) (alternation-words (process-of s p .alternation)) ≡ alternation-words v
-      → writes ws (λ j. process-at (length (s .cores)) p (2 + j)) (pack s) ≡ pack (put alternation p v s)
+      → writes ws (λ j. process-at (length (s .cores)) p (process-enabling + j)) (pack s) ≡ pack (put alternation p v s)
   put-alternation v ws b turned =
       let r = process-of s p in
       part-law s p _ ws (place-number (r .place) ∷ r .data-word ∷ []) (alternation-words (r .alternation)) _
-      (progress-words (r .progress) ++ link-words s p) 2 4 low high refl refl (lit≤ tt) b turned refl refl
+      (progress-words (r .progress) ++ rest-words s p) process-enabling (process-progress - process-enabling) low high refl refl (lit≤ tt) b turned refl refl
 
-  -- words 6 to 19: progress
-  pub put-progress : (v : Progress) (ws : List (ℕ × ℕ)) → T (below 14 (λ j. j) ws)
+  -- its progress
+  pub put-progress : (v : Progress) (ws : List (ℕ × ℕ)) → T (below progress-size (λ j. j) ws)
       → writes ws (λ j. j) (progress-words (process-of s p .progress)) ≡ progress-words v
-      → writes ws (λ j. process-at (length (s .cores)) p (6 + j)) (pack s) ≡ pack (put progress p v s)
+      → writes ws (λ j. process-at (length (s .cores)) p (process-progress + j)) (pack s) ≡ pack (put progress p v s)
   put-progress v ws b turned =
       let r = process-of s p in
       part-law s p _ ws (place-number (r .place) ∷ r .data-word ∷ alternation-words (r .alternation)) (progress-words (r .progress)) _
-      (link-words s p) 6 14 low high refl (length-progress-words (r .progress)) (lit≤ tt) b turned refl refl
+      (rest-words s p) process-progress progress-size low high refl (length-progress-words (r .progress)) (lit≤ tt) b turned refl refl
 
 -- What writes make of the words of a progress can be computed on those words written out.
 pub on-listed : (x : Progress) (ws : List (ℕ × ℕ)) {l : List ℕ}
-    → writes ws (λ j. j) (listed (progress-words x) 14) ≡ l → writes ws (λ j. j) (progress-words x) ≡ l
-on-listed x ws e = ap (writes ws (λ j. j)) (listed-same (progress-words x) 14 (length-progress-words x)) ∙ e
+    → writes ws (λ j. j) (listed (progress-words x) progress-size) ≡ l → writes ws (λ j. j) (progress-words x) ≡ l
+on-listed x ws e = ap (writes ws (λ j. j)) (listed-same (progress-words x) progress-size (length-progress-words x)) ∙ e
 
 -- Channels
 
 -- Writes that turn a channel's words into another's
 pub channel-law : (s : State) (c : ℕ) (r : Channel) (at : ℕ → ℕ) (ws : List (ℕ × ℕ))
-    → 1 ≤ c → c ≤ length (s .channels) → T (below 4 at ws)
+    → 1 ≤ c → c ≤ length (s .channels) → T (below channel-stride at ws)
     → writes ws at (channel-list (channel-of s c)) ≡ channel-list r
     → writes ws (λ f. channel-at (length (s .cores)) (length (s .processes)) c (at f)) (pack s) ≡ pack (with-channel c r s)
 unfolding process-words next-link head-link batch-link channel-words
@@ -201,19 +193,19 @@ channel-law s c r at ws low high b turned =
     (turned ∙ ap channel-list (sym (nth-set-same (s .channels) c r no-channel low high)))
 
 module _ (s : State) (c : ℕ) (low : 1 ≤ c) (high : c ≤ length (s .channels)) where
-  -- word 2: channel word
+  -- its channel word
   pub put-channel-word : (w : ChannelWord)
-      → set (pack s) (channel-at (length (s .cores)) (length (s .processes)) c 2) (word-number w) ≡ pack (put channel-word c w s)
-  put-channel-word w = channel-law s c _ (λ j. j) ((2, word-number w) ∷ []) low high tt refl
+      → set (pack s) (channel-at (length (s .cores)) (length (s .processes)) c channel-holder) (word-number w) ≡ pack (put channel-word c w s)
+  put-channel-word w = channel-law s c _ (λ j. j) ((channel-holder, word-number w) ∷ []) low high tt refl
 
-  -- word 3: transfers
-  pub put-transfers : (n : ℕ) → set (pack s) (channel-at (length (s .cores)) (length (s .processes)) c 3) n ≡ pack (put transfers c n s)
-  put-transfers n = channel-law s c _ (λ j. j) ((3, n) ∷ []) low high tt refl
+  -- its transfers
+  pub put-transfers : (n : ℕ) → set (pack s) (channel-at (length (s .cores)) (length (s .processes)) c channel-transfers) n ≡ pack (put transfers c n s)
+  put-transfers n = channel-law s c _ (λ j. j) ((channel-transfers, n) ∷ []) low high tt refl
 
 -- Cores
 
 -- Writes that turn a core's words into those of a core with the same queues
-pub put-core : (s : State) (k : ℕ) (c : Core) (at : ℕ → ℕ) (ws : List (ℕ × ℕ)) → k < length (s .cores) → T (below 16 at ws)
+pub put-core : (s : State) (k : ℕ) (c : Core) (at : ℕ → ℕ) (ws : List (ℕ × ℕ)) → k < length (s .cores) → T (below core-stride at ws)
     → core-of s k .active ≡ c .active → core-of s k .run-queue ≡ c .run-queue
     → writes ws at (core-list (core-of s k)) ≡ core-list c
     → writes ws (λ f. core-at k (at f)) (pack s) ≡ pack (put core k c s)
@@ -228,7 +220,7 @@ put-core s k c at ws inside b same-active same-batches turned =
     })
 
 -- the same after that core was changed already, as by a change of its queues
-pub put-core-again : (s : State) (k : ℕ) (old new : Core) (at : ℕ → ℕ) (ws : List (ℕ × ℕ)) → k < length (s .cores) → T (below 16 at ws)
+pub put-core-again : (s : State) (k : ℕ) (old new : Core) (at : ℕ → ℕ) (ws : List (ℕ × ℕ)) → k < length (s .cores) → T (below core-stride at ws)
     → old .active ≡ new .active → old .run-queue ≡ new .run-queue → writes ws at (core-list old) ≡ core-list new
     → writes ws (λ f. core-at k (at f)) (pack (put core k old s)) ≡ pack (put core k new s)
 put-core-again s k old new at ws inside b same-active same-batches turned =

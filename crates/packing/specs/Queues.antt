@@ -1,6 +1,5 @@
 -- The five changes of queues as writes into the table: a few words each, whatever the length of a queue. K is the number of cores,
--- k a core. Words of a core: 3, 4, 5 the active queue's first, last and size, 8 and 9 the first and the last head of its batches; of a
--- process: 20 the next in its queue, and of a batch's head 21, 22, 23 the batch's last and size and the next head.
+-- k a core.
 use Prim.Native.Nat.{ℕ, _+_, _-_, _≤_, _<_}
 use mathlib.Core.List.{List}
 use lib.Dec.{T, eqb}
@@ -8,7 +7,7 @@ use lib.ListN.{length, set}
 use Rattle.rules.specs.Lists.{if_then_else_, within, all}
 use Rattle.rules.specs.State.{Core, queues-of, State}
 use Rattle.rules.specs.Items.{core-of}
-use Rattle.rules.specs.Layout.{core-at, process-at}
+use Rattle.rules.specs.Layout.{core-at, process-at, core-first, core-last, core-size, core-first-head, core-last-head, process-next, process-last, process-size, process-next-head}
 use Rattle.rules.specs.Packing.{word-at}
 use Rattle.rules.specs.Soundness.{not-empty, in-queues}
 
@@ -18,54 +17,54 @@ link-end f g b p t K k = if eqb b 0 then set t (core-at k f) p else set t (proce
 
 -- Process q is put at the end of the active queue.
 abbrev pub push-writes : (last size : ℕ) → List ℕ → ℕ → ℕ → ℕ → List ℕ
-push-writes last size t K k q = set (set (link-end 3 20 last q t K k) (core-at k 4) q) (core-at k 5) (size + 1)
+push-writes last size t K k q = set (set (link-end core-first process-next last q t K k) (core-at k core-last) q) (core-at k core-size) (size + 1)
 
 abbrev pub push-table : List ℕ → ℕ → ℕ → ℕ → List ℕ
-push-table t K k q = push-writes (word-at t (core-at k 4)) (word-at t (core-at k 5)) t K k q
+push-table t K k q = push-writes (word-at t (core-at k core-last)) (word-at t (core-at k core-size)) t K k q
 
 -- The first process p is taken off the active queue; n is the next.
 abbrev pub take-writes : (p n last size : ℕ) → List ℕ → ℕ → ℕ → List ℕ
 take-writes p n last size t K k =
-    set (set (set (set t (core-at k 3) n) (core-at k 4) (if eqb n 0 then 0 else last)) (core-at k 5) (size - 1)) (process-at K p 20) 0
+    set (set (set (set t (core-at k core-first) n) (core-at k core-last) (if eqb n 0 then 0 else last)) (core-at k core-size) (size - 1)) (process-at K p process-next) 0
 
 abbrev pub take-table : List ℕ → ℕ → ℕ → List ℕ
 take-table t K k =
-    let p = word-at t (core-at k 3) in
-    take-writes p (word-at t (process-at K p 20)) (word-at t (core-at k 4)) (word-at t (core-at k 5)) t K k
+    let p = word-at t (core-at k core-first) in
+    take-writes p (word-at t (process-at K p process-next)) (word-at t (core-at k core-last)) (word-at t (core-at k core-size)) t K k
 
 -- A batch with the head p is put behind the last one, whose head is b; the last head is h then, and the active queue is empty.
 abbrev pub store-heads : (p h b : ℕ) → List ℕ → ℕ → ℕ → List ℕ
-store-heads p h b t K k = set (set (set (set (link-end 8 23 b p t K k) (core-at k 9) h) (core-at k 3) 0) (core-at k 4) 0) (core-at k 5) 0
+store-heads p h b t K k = set (set (set (set (link-end core-first-head process-next-head b p t K k) (core-at k core-last-head) h) (core-at k core-first) 0) (core-at k core-last) 0) (core-at k core-size) 0
 
 -- The active queue, with first process p, becomes the last batch.
 abbrev pub store-writes : (p last size b : ℕ) → List ℕ → ℕ → ℕ → List ℕ
-store-writes p last size b t K k = store-heads p p b (set (set t (process-at K p 21) last) (process-at K p 22) size) K k
+store-writes p last size b t K k = store-heads p p b (set (set t (process-at K p process-last) last) (process-at K p process-size) size) K k
 
 abbrev pub store-table : List ℕ → ℕ → ℕ → List ℕ
-store-table t K k = store-writes (word-at t (core-at k 3)) (word-at t (core-at k 4)) (word-at t (core-at k 5)) (word-at t (core-at k 9)) t K k
+store-table t K k = store-writes (word-at t (core-at k core-first)) (word-at t (core-at k core-last)) (word-at t (core-at k core-size)) (word-at t (core-at k core-last-head)) t K k
 
 -- The active queue becomes the two last batches: its first process p alone, then the others, the first of them q.
 abbrev pub split-writes : (p q last size b : ℕ) → List ℕ → ℕ → ℕ → List ℕ
 split-writes p q last size b t K k =
-    let alone = set (set (set (set t (process-at K p 20) 0) (process-at K p 21) p) (process-at K p 22) 1) (process-at K p 23) q in
-    store-heads p q b (set (set alone (process-at K q 21) last) (process-at K q 22) (size - 1)) K k
+    let alone = set (set (set (set t (process-at K p process-next) 0) (process-at K p process-last) p) (process-at K p process-size) 1) (process-at K p process-next-head) q in
+    store-heads p q b (set (set alone (process-at K q process-last) last) (process-at K q process-size) (size - 1)) K k
 
 abbrev pub split-table : List ℕ → ℕ → ℕ → List ℕ
 split-table t K k =
-    let p = word-at t (core-at k 3) in
-    split-writes p (word-at t (process-at K p 20)) (word-at t (core-at k 4)) (word-at t (core-at k 5)) (word-at t (core-at k 9)) t K k
+    let p = word-at t (core-at k core-first) in
+    split-writes p (word-at t (process-at K p process-next)) (word-at t (core-at k core-last)) (word-at t (core-at k core-size)) (word-at t (core-at k core-last-head)) t K k
 
 -- The first batch, with the head p, becomes the active queue; n is the next head, b the last.
 abbrev pub load-writes : (p last size n b : ℕ) → List ℕ → ℕ → ℕ → List ℕ
 load-writes p last size n b t K k =
-    let active = set (set (set t (core-at k 3) p) (core-at k 4) last) (core-at k 5) size in
-    let heads = set (set active (core-at k 8) n) (core-at k 9) (if eqb n 0 then 0 else b) in
-    set (set (set heads (process-at K p 21) 0) (process-at K p 22) 0) (process-at K p 23) 0
+    let active = set (set (set t (core-at k core-first) p) (core-at k core-last) last) (core-at k core-size) size in
+    let heads = set (set active (core-at k core-first-head) n) (core-at k core-last-head) (if eqb n 0 then 0 else b) in
+    set (set (set heads (process-at K p process-last) 0) (process-at K p process-size) 0) (process-at K p process-next-head) 0
 
 abbrev pub load-table : List ℕ → ℕ → ℕ → List ℕ
 load-table t K k =
-    let p = word-at t (core-at k 8) in
-    load-writes p (word-at t (process-at K p 21)) (word-at t (process-at K p 22)) (word-at t (process-at K p 23)) (word-at t (core-at k 9)) t K k
+    let p = word-at t (core-at k core-first-head) in
+    load-writes p (word-at t (process-at K p process-last)) (word-at t (process-at K p process-size)) (word-at t (process-at K p process-next-head)) (word-at t (core-at k core-last-head)) t K k
 
 -- a core with other queues
 abbrev pub with-queues : List ℕ → List (List ℕ) → Core → Core

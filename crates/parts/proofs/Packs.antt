@@ -13,10 +13,11 @@ use Rattle.rules.specs.Packing.{pack, view, place-number, word-number, word-num
 use Rattle.rules.specs.Steps.{with-work}
 use Rattle.rules.proofs.Laws.Frame.{put-other}
 use Rattle.packing.proofs.Focus.{writes, below}
-use Rattle.rules.proofs.Packing.ReadLaws.{alternation-words, after-work, listed, core-list, process-list, channel-list, read-core, read-process, read-progress}
-use Rattle.rules.proofs.Packing.ReadLaws.{read-channel}
+use Rattle.packing.proofs.ReadLaws.{listed, core-list, process-list, channel-list, read-core, read-process, read-progress}
+use Rattle.packing.proofs.ReadLaws.{read-channel}
 use Rattle.packing.proofs.States.{with-process, length-set-nth}
 use Rattle.rules.proofs.Packing.ViewChannel.{word-back}
+use Rattle.rules.proofs.Packing.Reading.{alternation-words, queue-words}
 use Rattle.packing.proofs.WriteLaws.{put-place, put-data-word, put-alternation, put-progress, on-listed, put-channel-word, put-transfers, put-core}
 use Rattle.parts.specs.Does.{Card}
 use Rattle.parts.specs.Shared.{task-table, asleep-table, cleared}
@@ -150,7 +151,7 @@ module _ {t : List ℕ} {cores processes : ℕ} {s : State} (packs : Packs t cor
         still (length-set (s .cores) k _) refl
         (rw (packs .is-pack)
         (put-core s k (with-work (free x) (core-of s k)) (λ j. j) ((0, 0) ∷ (1, task) ∷ (2, q) ∷ []) inside tt refl refl
-        (ap (λ (l : List ℕ). listed l 3 ++ after-work (core-of s k)) (sym e))))
+        (ap (λ (l : List ℕ). listed l 3 ++ queue-words (core-of s k)) (sym e))))
 
 -- process p falls asleep, and core k has a task
 pub asleep-written : {t : List ℕ} {cores processes : ℕ} {s : State} → Packs t cores processes s → (k : ℕ) → k < length (s .cores)

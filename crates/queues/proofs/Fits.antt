@@ -14,7 +14,7 @@ use Rattle.packing.specs.Queues.{Queued}
 use Rattle.rules.proofs.Packing.Blocks.{pack-holds}
 use Rattle.rules.proofs.Tests.{within-means, all-times}
 use Rattle.rules.proofs.Sums.{among-length}
-use Rattle.rules.proofs.Packing.ReadLaws.{read-core}
+use Rattle.packing.proofs.ReadLaws.{read-core}
 use Rattle.packing.proofs.Links.{Stands}
 use Rattle.packing.proofs.Standing.{active-among, stands-once, first-stands, second-stands, last-stands, first-head-stands, last-head-stands}
 use Rattle.packing.proofs.Take.{next-read}

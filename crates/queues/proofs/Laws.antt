@@ -13,7 +13,7 @@ use Rattle.rules.specs.Steps.{with-active}
 use Rattle.rules.specs.Scheduler.{stored}
 use Rattle.packing.specs.Queues.{push-table, take-table, store-table, split-table, load-table, with-queues, Queued}
 use Rattle.packing.proofs.Focus.{writes}
-use Rattle.rules.proofs.Packing.ReadLaws.{core-list}
+use Rattle.packing.proofs.ReadLaws.{core-list}
 use Rattle.packing.proofs.WriteLaws.{put-place, put-core-again}
 use Rattle.packing.proofs.Links.{Stands}
 use Rattle.packing.proofs.Standing.{first-stands}

@@ -3,7 +3,7 @@ pub mod Regions
 pub mod Blocks
 pub mod Reflect
 pub mod Chains
-pub mod ReadLaws
+pub mod Numbered
 pub mod Reading
 pub mod ViewCore
 pub mod ViewProcess

@@ -1,5 +1,5 @@
 -- Document 01, "Bench sheet": the cases marked *, through the calls that the exports' contracts cite.
-use Prim.Native.Nat.{ℕ, _+_, _*_}
+use Prim.Native.Nat.{ℕ}
 use mathlib.Core.Path.{_≡_}
 use mathlib.Core.Bool.{Bool, true, false}
 use mathlib.Core.List.{List, [], _∷_, _++_, map}
@@ -9,6 +9,7 @@ use Rattle.rules.specs.Numbers.{Answer, BUILT, TAKEN, MOVED, SLEPT, GO, 
 use Rattle.rules.specs.State.{Place, queued, asleep, ended, go, nothing, due, Alternation, Process, no-task, trigger, wake-up, Work, free}
 use Rattle.rules.specs.Items.{core-of, process-of, no-alternation, put, alternation, transfers}
 use Rattle.rules.specs.Requests.{send, receive, choose}
+use Rattle.rules.specs.Layout.{room, channel-holder, channel-transfers}
 use Rattle.rules.specs.Packing.{pack, view, word-of-channel}
 use Rattle.rules.specs.Calls.{Result, Ask, the-step, a-request, call, Built, set-up-call}
 
@@ -92,7 +93,7 @@ Case-4 =
 
 -- the table of a pair: K cores, N=2, M=1, writer 1, reader 2
 abbrev pub pair : ℕ → List ℕ
-pair k = set-up-call k 2 1 (1 ∷ 2 ∷ []) (replicate (60 + 16 * k) 7) .table
+pair k = set-up-call k 2 1 (1 ∷ 2 ∷ []) (replicate (room k 2 1) 7) .table
 
 -- 5. "K=1, N=2, M=1, writer 1, reader 2. Step MOVED; step GO 1; send 77 TAKEN; MOVED; SLEPT 1; MOVED; GO 2; receive TAKEN; MOVED
 -- three times; GOT 2, 1, 77."
@@ -117,7 +118,7 @@ abbrev pub Case-6 : Type 0
 Case-6 =
     (answers (pair 2) (both-look ++ both-park ++ one-sends)
     ≡ said (MOVED ∷ GO 1 ∷ MOVED ∷ GO 2 ∷ TAKEN 1 1 ∷ TAKEN 2 1 ∷ MOVED ∷ MOVED ∷ SLEPT 2 ∷ MOVED ∷ MOVED ∷ MOVED ∷ SENT 1 1 ∷ []))
-    × (word-of-channel (after (pair 2) (both-look ++ both-park)) 1 2 ≡ 2)
+    × (word-of-channel (after (pair 2) (both-look ++ both-park)) 1 channel-holder ≡ 2)
     × (core-of (view (after (pair 2) (both-look ++ both-park ++ one-sends))) 0 .active ≡ 2 ∷ [])
 
 -- 7. "Choose over one guard whose word is 2: look, ready, wait, disable MOVED, finish CHOSE."
@@ -129,7 +130,7 @@ two-chooses = steps 1 ∷ steps 1 ∷ chooses 1 (1 ∷ []) ∷ []
 
 abbrev pub Case-7 : Type 0
 Case-7 =
-    (word-of-channel (after (pair 2) one-parks) 1 2 ≡ 2)
+    (word-of-channel (after (pair 2) one-parks) 1 channel-holder ≡ 2)
     × (answers (after (pair 2) one-parks) (two-chooses ++ (steps 1 ∷ steps 1 ∷ steps 1 ∷ steps 1 ∷ steps 1 ∷ []))
     ≡ said (MOVED ∷ GO 2 ∷ TAKEN 2 0 ∷ MOVED ∷ MOVED ∷ MOVED ∷ MOVED ∷ CHOSE 2 1 ∷ []))
 
@@ -143,7 +144,7 @@ no-flags n = record { enabling = false; not-ready = false; waiting = false; coun
 abbrev pub Case-8 : Type 0
 Case-8 =
     (answers (pair 2) two-waits ≡ said (MOVED ∷ GO 2 ∷ TAKEN 2 0 ∷ MOVED ∷ MOVED ∷ MOVED ∷ SLEPT 2 ∷ []))
-    × (word-of-channel (after (pair 2) two-waits) 1 2 ≡ 5)
+    × (word-of-channel (after (pair 2) two-waits) 1 channel-holder ≡ 5)
     × (process-of (view (after (pair 2) two-waits)) 2 .alternation ≡ record { enabling = false; not-ready = false; waiting = true; count = 2 })
 
 -- Process 1 now sends to process 2, which waits: it looks at 5, parks, and its core has the task "trigger 2".
@@ -208,8 +209,8 @@ many-transfers = pack (put transfers 1 4294967295 (view (after (pair 2) (one-par
 
 abbrev pub Case-13 : Type 0
 Case-13 =
-    (word-of-channel many-transfers 1 3 ≡ 4294967295) × (answers many-transfers (steps 1 ∷ []) ≡ said (MOVED ∷ []))
-    × (word-of-channel (after many-transfers (steps 1 ∷ [])) 1 3 ≡ 0)
+    (word-of-channel many-transfers 1 channel-transfers ≡ 4294967295) × (answers many-transfers (steps 1 ∷ []) ≡ said (MOVED ∷ []))
+    × (word-of-channel (after many-transfers (steps 1 ∷ [])) 1 channel-transfers ≡ 0)
 
 -- The starred cases, together.
 pub record BenchSheet : Type 0 where

@@ -7,12 +7,12 @@ use mathlib.Core.List.{List, [], _∷_, map, List·Memᴰ}
 use mathlib.Core.Logic.{_↔_}
 use lib.Dec.{T}
 use lib.ListN.{length, getD}
-use Rattle.rules.specs.Lists.{within, total, member, times, first, last}
+use Rattle.rules.specs.Lists.{total, member, times, first, last}
 use Rattle.rules.specs.Numbers.{Answer, BUILT, TAKEN, MOVED, SLEPT, IDLE, GO, SENT, GOT, CHOSE, Refusal, SIZE, PAIRS, ROOM, NAME, SELF, ANSWER, DAMAGED, CORE, BUSY, AWAITED, GUARDS, CHANNEL, OTHER-END, TWICE, FAULT, reply, refusal-number, words-of}
 use Rattle.rules.specs.State.{Way, copy, doing, no-task, runs, free, Core, State, wiring}
 use Rattle.rules.specs.Items.{progress, transfers, Item, core-of, get}
 use Rattle.rules.specs.Requests.{send, receive, choose, yield, end}
-use Rattle.rules.specs.Layout.{room, core-task, core-task-process, core-first, core-last, core-size, core-first-head, core-last-head, process-next, process-last, process-size, process-next-head}
+use Rattle.rules.specs.Layout.{header-size, core-stride, process-stride, room, header-spare, core-task, core-task-process, core-first, core-last, core-size, core-first-head, core-last-head, core-spare, process-channel, process-next, process-last, process-size, process-next-head, process-spare}
 use Rattle.rules.specs.Packing.{heads, pack, word-at, word-of-core, word-of-process, view}
 use Rattle.rules.specs.UsedWords.{used-words}
 use Rattle.rules.specs.Soundness.{word32, is-process, in-queues, valid, sound}
@@ -155,9 +155,9 @@ SoundMeans = (t : List ℕ) → T (sound t) ↔ ((s : State) × T (valid s) × (
 abbrev pub PackingLength : Type 0
 PackingLength = (s : State) → length (pack s) ≡ room (length (s .cores)) (length (s .processes)) (length (s .channels))
 
--- what is 0 among the words w of a core c: the last six, a task's words where there is no task, a queue's where it is empty
+-- what is 0 among the words w of a core c: what is left of its record, a task's words where there is no task, a queue's where it is empty
 pub record UnusedOfCore (c : Core) (w : ℕ → ℕ) : Type 0 where
-  pub spare : (f : ℕ) → T (within 10 15 f) → w f ≡ 0
+  pub spare : (f : ℕ) → core-spare ≤ f → f < core-stride → w f ≡ 0
   pub task : (p : ℕ) → c .work ≡ runs p → (w core-task ≡ 0) × (w core-task-process ≡ 0)
   pub task-process : c .work ≡ free no-task → w core-task-process ≡ 0
   pub active : c .active ≡ [] → (w core-first ≡ 0) × (w core-last ≡ 0) × (w core-size ≡ 0)
@@ -167,15 +167,17 @@ pub record UnusedOfCore (c : Core) (w : ℕ → ℕ) : Type 0 where
 abbrev pub batches-headed : State → ℕ → ℕ
 batches-headed s p = total (λ (c : Core). times p (heads (c .run-queue))) (s .cores)
 
--- and of process p: what its progress has no use for, next where it stands in no queue, a batch's words where it heads none
+-- and of process p: what its progress has no use for, next where it stands in no queue, a batch's words where it heads none, and what is
+-- left of its record
 pub record UnusedOfProcess (s : State) (p : ℕ) (w : ℕ → ℕ) : Type 0 where
-  pub in-hand : (f : ℕ) → T (within 7 19 f) → (T (member f (used-words (get progress s p))) → ⊥) → w f ≡ 0
+  pub in-hand : (f : ℕ) → process-channel ≤ f → f < process-next → (T (member f (used-words (get progress s p))) → ⊥) → w f ≡ 0
   pub next : in-queues s p ≡ 0 → w process-next ≡ 0
   pub batch : batches-headed s p ≡ 0 → (w process-last ≡ 0) × (w process-size ≡ 0) × (w process-next-head ≡ 0)
+  pub spare : (f : ℕ) → process-spare ≤ f → f < process-stride → w f ≡ 0
 
 -- `unused-words-zero`: "Each state has exactly one packing, unused words 0."
 pub record UnusedWordsZero : Type 0 where
-  pub header : (s : State) (f : ℕ) → T (within 3 7 f) → word-at (pack s) f ≡ 0
+  pub header : (s : State) (f : ℕ) → header-spare ≤ f → f < header-size → word-at (pack s) f ≡ 0
   pub cores : (s : State) (k : ℕ) → k < length (s .cores) → UnusedOfCore (core-of s k) (word-of-core (pack s) k)
   pub processes : (s : State) (p : ℕ) → T (is-process (wiring s) p) → UnusedOfProcess s p (word-of-process (pack s) p)
 

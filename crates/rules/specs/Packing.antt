@@ -4,7 +4,7 @@ use mathlib.Core.List.{List, [], _∷_, _++_, map, flatMap}
 use mathlib.Core.Option.{Option, none, some}
 use lib.Dec.{eqb}
 use lib.ListN.{length, getD, take, replicate}
-use Rattle.rules.specs.Lists.{if_then_else_, nth, total, tabulate, from, bit, first, last, follows}
+use Rattle.rules.specs.Lists.{if_then_else_, total, tabulate, from, bit, first, last, follows}
 use Rattle.rules.specs.State.{Place, running, queued, asleep, ended, sending, receiving, look, park, copy, clear, wake, enable-look, raise, place-name, ready-from-look, ready-from-place, wait, disable, lower, finish, go, sent, got, chose, Progress, nothing, doing, due, Process, no-task, trigger, wake-up, Work, runs, free, Core, queues-of, ChannelWord, nobody, plain, choosing, Channel, State}
 use Rattle.rules.specs.Items.{core-of, process-of, channel-of}
 use Rattle.rules.specs.Layout.{header-size, core-stride, process-stride, channel-stride, core-at, process-at, channel-at, header-cores, header-processes, header-channels, header-spare, core-runs, core-task, core-task-process, core-first, core-dispatch, core-mark, core-first-head, core-spare, process-place, process-data, process-enabling, process-not-ready, process-waiting, process-count, process-progress, process-channel, process-partner, process-guards, process-index, process-first-ready, process-first-guard, process-next, process-next-head, process-spare, place-running, place-queued, place-asleep, place-ended, task-none, task-trigger, task-wake, at-nothing, at-send-look, at-send-park, at-send-copy, at-send-clear, at-send-wake, at-receive-look, at-receive-park, at-receive-copy, at-receive-clear, at-receive-wake, at-enable-look, at-raise, at-place-name, at-ready-from-look, at-ready-from-place, at-wait, at-disable, at-lower, at-finish, due-go, due-sent, due-got, due-chose, guard-places, channel-writer, channel-reader, channel-holder, channel-transfers, channel-spare}
@@ -58,6 +58,43 @@ padded zero l = []
 padded (suc n) [] = 0 ∷ padded n []
 padded (suc n) (x ∷ xs) = x ∷ padded n xs
 
+-- What a progress carries, and so which of its words mean something: docs/PACKING.md's column "Words".
+pub data Carried : Type 0 where
+  bare : Carried
+  channel-only : (c : ℕ) → Carried
+  channel-partner : (c q : ℕ) → Carried
+  guards-only : (gs : List ℕ) → Carried
+  guards-index : (gs : List ℕ) (i : ℕ) → Carried
+  guards-index-ready : (gs : List ℕ) (i : ℕ) (r : Option ℕ) → Carried
+  guards-ready : (gs : List ℕ) (r : Option ℕ) → Carried
+
+-- Each progress: its number, and what it carries.
+abbrev pub packed-as : Progress → ℕ × Carried
+packed-as nothing = (at-nothing, bare)
+packed-as (doing (look sending c)) = (at-send-look, channel-only c)
+packed-as (doing (park sending c)) = (at-send-park, channel-only c)
+packed-as (doing (copy sending c q)) = (at-send-copy, channel-partner c q)
+packed-as (doing (clear sending c q)) = (at-send-clear, channel-partner c q)
+packed-as (doing (wake sending c q)) = (at-send-wake, channel-partner c q)
+packed-as (doing (look receiving c)) = (at-receive-look, channel-only c)
+packed-as (doing (park receiving c)) = (at-receive-park, channel-only c)
+packed-as (doing (copy receiving c q)) = (at-receive-copy, channel-partner c q)
+packed-as (doing (clear receiving c q)) = (at-receive-clear, channel-partner c q)
+packed-as (doing (wake receiving c q)) = (at-receive-wake, channel-partner c q)
+packed-as (doing (enable-look gs i)) = (at-enable-look, guards-index gs i)
+packed-as (doing (raise gs i)) = (at-raise, guards-index gs i)
+packed-as (doing (place-name gs i)) = (at-place-name, guards-index gs i)
+packed-as (doing (ready-from-look gs i)) = (at-ready-from-look, guards-index gs i)
+packed-as (doing (ready-from-place gs i)) = (at-ready-from-place, guards-index gs i)
+packed-as (doing (wait gs)) = (at-wait, guards-only gs)
+packed-as (doing (disable gs i r)) = (at-disable, guards-index-ready gs i r)
+packed-as (doing (lower gs i r)) = (at-lower, guards-index-ready gs i r)
+packed-as (doing (finish gs r)) = (at-finish, guards-ready gs r)
+packed-as (due go) = (due-go, bare)
+packed-as (due (sent c)) = (due-sent, channel-only c)
+packed-as (due (got c)) = (due-got, channel-only c)
+packed-as (due (chose c)) = (due-chose, channel-only c)
+
 -- A progress's words: its number, channel, partner, number of guards, guard index, first ready guard, and the guards.
 abbrev pub request-words : ℕ → ℕ → ℕ → List ℕ → ℕ → Option ℕ → List ℕ
 request-words number c q gs i r = number ∷ c ∷ q ∷ length gs ∷ i ∷ ready-number r ∷ padded guard-places gs
@@ -68,31 +105,17 @@ of-channel number c q = request-words number c q [] 0 none
 abbrev pub of-choice : ℕ → List ℕ → ℕ → Option ℕ → List ℕ
 of-choice number gs i r = request-words number 0 0 gs i r
 
+abbrev pub carried-words : ℕ → Carried → List ℕ
+carried-words number bare = of-channel number 0 0
+carried-words number (channel-only c) = of-channel number c 0
+carried-words number (channel-partner c q) = of-channel number c q
+carried-words number (guards-only gs) = of-choice number gs 0 none
+carried-words number (guards-index gs i) = of-choice number gs i none
+carried-words number (guards-index-ready gs i r) = of-choice number gs i r
+carried-words number (guards-ready gs r) = of-choice number gs 0 r
+
 unfoldable pub progress-words : Progress → List ℕ
-progress-words nothing = of-channel at-nothing 0 0
-progress-words (doing (look sending c)) = of-channel at-send-look c 0
-progress-words (doing (park sending c)) = of-channel at-send-park c 0
-progress-words (doing (copy sending c q)) = of-channel at-send-copy c q
-progress-words (doing (clear sending c q)) = of-channel at-send-clear c q
-progress-words (doing (wake sending c q)) = of-channel at-send-wake c q
-progress-words (doing (look receiving c)) = of-channel at-receive-look c 0
-progress-words (doing (park receiving c)) = of-channel at-receive-park c 0
-progress-words (doing (copy receiving c q)) = of-channel at-receive-copy c q
-progress-words (doing (clear receiving c q)) = of-channel at-receive-clear c q
-progress-words (doing (wake receiving c q)) = of-channel at-receive-wake c q
-progress-words (doing (enable-look gs i)) = of-choice at-enable-look gs i none
-progress-words (doing (raise gs i)) = of-choice at-raise gs i none
-progress-words (doing (place-name gs i)) = of-choice at-place-name gs i none
-progress-words (doing (ready-from-look gs i)) = of-choice at-ready-from-look gs i none
-progress-words (doing (ready-from-place gs i)) = of-choice at-ready-from-place gs i none
-progress-words (doing (wait gs)) = of-choice at-wait gs 0 none
-progress-words (doing (disable gs i r)) = of-choice at-disable gs i r
-progress-words (doing (lower gs i r)) = of-choice at-lower gs i r
-progress-words (doing (finish gs r)) = of-choice at-finish gs 0 r
-progress-words (due go) = of-channel due-go 0 0
-progress-words (due (sent c)) = of-channel due-sent c 0
-progress-words (due (got c)) = of-channel due-got c 0
-progress-words (due (chose c)) = of-channel due-chose c 0
+progress-words x = carried-words (packed-as x .0) (packed-as x .1)
 
 -- The queues as chains. In a sound table p stands in at most one queue, and the sums below have at most one term that isn't 0.
 -- p's next: who follows p in its queue
@@ -159,9 +182,13 @@ word-of-process t p f = word-at t (process-at (K-of t) p f)
 abbrev pub word-of-channel : List ℕ → ℕ → ℕ → ℕ
 word-of-channel t c f = word-at t (channel-at (K-of t) (N-of t) c f)
 
--- Where a number isn't one of the packing's, anything may be read: packing it again gives another table.
+-- The one of a list that has the number n. Where none has it anything may be read, as d: packing it again gives another table.
+abbrev pub numbered : {A : Type 0} → (A → ℕ) → List A → A → ℕ → A
+numbered number [] d n = d
+numbered number (x ∷ l) d n = if eqb (number x) n then x else numbered number l d n
+
 abbrev pub place-numbered : ℕ → Place
-place-numbered n = nth (running ∷ queued ∷ asleep ∷ ended ∷ []) n ended
+place-numbered n = numbered place-number (running ∷ queued ∷ asleep ∷ ended ∷ []) ended n
 
 abbrev pub word-numbered : ℕ → ChannelWord
 word-numbered n = if eqb n 0 then nobody else if eqb (n % 2) 0 then plain (n / 2) else choosing (n / 2)
@@ -172,19 +199,18 @@ ready-numbered n = if eqb n 0 then none else some n
 abbrev pub work-numbered : ℕ → ℕ → ℕ → Work
 work-numbered p task q = if eqb p 0 then free (getD (no-task ∷ trigger q ∷ wake-up q ∷ []) task no-task) else runs p
 
--- the progress of each number, from 0 on, with this channel, partner, guards, index and first ready guard
-unfoldable pub progress-numbered : ℕ → ℕ → ℕ → List ℕ → ℕ → Option ℕ → Progress
-progress-numbered number c q gs i r =
-    getD
-    (nothing
+-- every progress with this channel, partner, guards, index and first ready guard, and the one of a number
+abbrev pub progress-list : ℕ → ℕ → List ℕ → ℕ → Option ℕ → List Progress
+progress-list c q gs i r =
+    nothing
     ∷ doing (look sending c) ∷ doing (park sending c) ∷ doing (copy sending c q) ∷ doing (clear sending c q) ∷ doing (wake sending c q)
     ∷ doing (look receiving c) ∷ doing (park receiving c) ∷ doing (copy receiving c q) ∷ doing (clear receiving c q) ∷ doing (wake receiving c q)
     ∷ doing (enable-look gs i) ∷ doing (raise gs i) ∷ doing (place-name gs i) ∷ doing (ready-from-look gs i) ∷ doing (ready-from-place gs i)
     ∷ doing (wait gs) ∷ doing (disable gs i r) ∷ doing (lower gs i r) ∷ doing (finish gs r)
-    ∷ due go ∷ due (sent c) ∷ due (got c) ∷ due (chose c)
-    ∷ [])
-    number
-    nothing
+    ∷ due go ∷ due (sent c) ∷ due (got c) ∷ due (chose c) ∷ []
+
+unfoldable pub progress-numbered : ℕ → ℕ → ℕ → List ℕ → ℕ → Option ℕ → Progress
+progress-numbered number c q gs i r = numbered (λ x. packed-as x .0) (progress-list c q gs i r) nothing number
 
 -- p, then what is linked behind it, up to the first 0 and at most n of them
 abbrev pub chain : (ℕ → ℕ) → ℕ → ℕ → List ℕ

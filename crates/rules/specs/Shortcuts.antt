@@ -6,6 +6,7 @@ use lib.ListN.{replicate}
 use Rattle.rules.specs.Numbers.{TAKEN, MOVED, GO, CHOSE}
 use Rattle.rules.specs.State.{asleep}
 use Rattle.rules.specs.Items.{process-of}
+use Rattle.rules.specs.Layout.{room}
 use Rattle.rules.specs.Packing.{view}
 use Rattle.rules.specs.Calls.{set-up-call}
 use Rattle.rules.specs.BenchSheet.{Turn, steps, sends, receives, chooses, answers, after, said, pair}
@@ -22,7 +23,7 @@ StillAsleep = (process-of (view copied) 2 .data-word ≡ 77) × (process-of (vie
 
 -- K=3, N=3, M=2: processes 1 and 2 write, process 3 reads both channels
 abbrev pub triple : List ℕ
-triple = set-up-call 3 3 2 (1 ∷ 3 ∷ 2 ∷ 3 ∷ []) (replicate 136 7) .table
+triple = set-up-call 3 3 2 (1 ∷ 3 ∷ 2 ∷ 3 ∷ []) (replicate (room 3 3 2) 7) .table
 
 -- the process of a core sends on a channel, and parks
 abbrev pub parks : ℕ → ℕ → List Turn

@@ -10,7 +10,7 @@ use Rattle.rules.specs.Items.{core-of}
 use Rattle.rules.specs.Layout.{core-at}
 use Rattle.rules.specs.Packing.{view, word-at}
 use Rattle.packing.specs.Queues.{Queued}
-use Rattle.rules.proofs.Packing.ReadLaws.{core-list}
+use Rattle.packing.proofs.ReadLaws.{core-list}
 use Rattle.table.specs.Has.{HasCore}
 use Rattle.parts.proofs.Card.{card-inside, card-order, card-core}
 use Rattle.parts.proofs.Packs.{Packs, card-packs, core-read}

@@ -16,7 +16,7 @@ use Rattle.rules.specs.Packing.{pack, view, heads, word-at}
 use Rattle.rules.specs.Soundness.{not-empty}
 use Rattle.packing.specs.Queues.{load-table, with-queues}
 use Rattle.rules.proofs.Tests.{both, within-means}
-use Rattle.rules.proofs.Packing.ReadLaws.{read-core}
+use Rattle.packing.proofs.ReadLaws.{read-core}
 use Rattle.packing.proofs.Load.{load-law}
 use Rattle.answers.specs.Four.{four}
 use Rattle.answers.specs.declared.Reply.{Reply}

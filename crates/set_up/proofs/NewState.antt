@@ -10,10 +10,11 @@ use Rattle.rules.specs.State.{Core, State, queues-of}
 use Rattle.rules.specs.Items.{core-of, process-of, channel-of, no-core, no-process}
 use Rattle.rules.specs.SetUp.{ends-of, new-core, new-process, new-channel, set-up-state}
 use Rattle.rules.specs.Packing.{heads, if-head, next-link, head-link, batch-link, core-words, process-words, channel-words, progress-words}
-use Rattle.rules.proofs.Packing.ReadLaws.{core-listed, own-words, link-words, process-split}
+use Rattle.packing.proofs.ReadLaws.{core-listed, own-words, process-split}
 use Rattle.rules.proofs.QueueLists.{follows-single, follows-rest, if-head-first, if-head-other}
 use Rattle.rules.proofs.Tabulate.{tabulate-at}
 use Rattle.rules.proofs.Validity.SetUp.{total-none, total-one, batches-by}
+use Rattle.rules.proofs.Packing.Reading.{link-words}
 use Rattle.set_up.specs.Filled.{up-to, last-of}
 use Rattle.set_up.proofs.Heads.{first-head, next-head, last-head}
 use Rattle.set_up.proofs.Pairs.{ends-at}

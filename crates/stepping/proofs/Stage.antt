@@ -13,8 +13,9 @@ use Rattle.rules.specs.Items.{core-of, process-of}
 use Rattle.rules.specs.Rule.{run}
 use Rattle.rules.specs.Scheduler.{running-step, stage-step, work-step, step}
 use Rattle.rules.specs.Layout.{process-at}
-use Rattle.rules.specs.Packing.{view, K-of, N-of, progress-numbered, ready-numbered}
+use Rattle.rules.specs.Packing.{view, K-of, N-of, progress-list, progress-numbered, ready-numbered}
 use Rattle.rules.proofs.Tests.{within-means}
+use Rattle.rules.proofs.Packing.Numbered.{progress-by-place}
 use Rattle.answers.specs.Four.{four}
 use Rattle.answers.specs.declared.Reply.{Reply}
 use Rattle.parts.specs.Does.{At, Comes, Does, of-way}
@@ -46,7 +47,7 @@ no-stage t cores p n (inr h) = by-number (ℕ-discrete n 20) (ℕ-discrete n 21)
     by-number (no a) (yes e) c d = rw e tt
     by-number (no a) (no b) (yes e) d = rw e tt
     by-number (no a) (no b) (no c) (yes e) = rw e tt
-    by-number (no a) (no b) (no c) (no d) = let long : 24 ≤ n = omega arith in rw (List·getD-eq-default _ nothing long) tt
+    by-number (no a) (no b) (no c) (no d) = let long : 24 ≤ n = omega arith in rw (progress-by-place, List·getD-eq-default (progress-list _ _ _ _ _) nothing long) tt
 
 -- the stages of send and receive, by their numbers
 pub record Exchange (t : List ℕ) (cores p : ℕ) (w : Way) (c q : ℕ) : Type 0 where

@@ -8,44 +8,10 @@ use native.Mathlib.Nat.{mul-suc, mul-zero, zero-add, add-zero}
 use lib.ListN.{length, getD, length-append, List·getD-append}
 use lib.Seq.{getD-append-add}
 use Rattle.rules.specs.Lists.{from}
-use Rattle.rules.specs.State.{
-  sending,
-  receiving,
-  look,
-  park,
-  copy,
-  clear,
-  wake,
-  enable-look,
-  raise,
-  place-name,
-  ready-from-look,
-  ready-from-place,
-  wait,
-  disable,
-  lower,
-  finish,
-  go,
-  sent,
-  got,
-  chose,
-  Progress,
-  nothing,
-  doing,
-  due,
-  no-task,
-  trigger,
-  wake-up,
-  Work,
-  runs,
-  free,
-  Core,
-  State,
-  Channel,
-}
+use Rattle.rules.specs.State.{Progress, no-task, trigger, wake-up, Work, runs, free, Core, State, Channel}
 use Rattle.rules.specs.Items.{core-of, process-of, channel-of}
-use Rattle.rules.specs.Layout.{room, core-at, process-at, channel-at}
-use Rattle.rules.specs.Packing.{work-words, core-words, padded, request-words, progress-words, process-words, channel-words, header-words, pack}
+use Rattle.rules.specs.Layout.{header-size, core-stride, process-stride, channel-stride, processes-at, channels-at, core-at, process-at, channel-at, room, core-first, progress-size, guard-places}
+use Rattle.rules.specs.Packing.{Carried, bare, channel-only, channel-partner, guards-only, guards-index, guards-index-ready, guards-ready, packed-as, work-words, core-words, padded, of-choice, carried-words, progress-words, process-words, channel-words, header-words, pack}
 use Rattle.rules.proofs.Packing.Regions.{Dims, Words, Holds}
 
 -- A list of blocks
@@ -78,55 +44,41 @@ length-padded zero l = refl
 length-padded (suc n) [] = ap suc (length-padded n [])
 length-padded (suc n) (x ∷ xs) = ap suc (length-padded n xs)
 
-length-request-words : (number c q : ℕ) (gs : List ℕ) (i : ℕ) (r : Option ℕ) → length (request-words number c q gs i r) ≡ 14
-length-request-words number c q gs i r = omega (arith, length-padded 8 gs)
+length-choice : (number : ℕ) (gs : List ℕ) (i : ℕ) (r : Option ℕ) → length (of-choice number gs i r) ≡ progress-size
+length-choice number gs i r = omega (arith, length-padded guard-places gs)
 
-pub length-progress-words : (x : Progress) → length (progress-words x) ≡ 14
+length-carried-words : (number : ℕ) (x : Carried) → length (carried-words number x) ≡ progress-size
+length-carried-words number bare = refl
+length-carried-words number (channel-only c) = refl
+length-carried-words number (channel-partner c q) = refl
+length-carried-words number (guards-only gs) = length-choice number gs 0 none
+length-carried-words number (guards-index gs i) = length-choice number gs i none
+length-carried-words number (guards-index-ready gs i r) = length-choice number gs i r
+length-carried-words number (guards-ready gs r) = length-choice number gs 0 r
+
+pub length-progress-words : (x : Progress) → length (progress-words x) ≡ progress-size
 unfolding progress-words
-length-progress-words nothing = refl
-length-progress-words (doing (look sending c)) = refl
-length-progress-words (doing (park sending c)) = refl
-length-progress-words (doing (copy sending c q)) = refl
-length-progress-words (doing (clear sending c q)) = refl
-length-progress-words (doing (wake sending c q)) = refl
-length-progress-words (doing (look receiving c)) = refl
-length-progress-words (doing (park receiving c)) = refl
-length-progress-words (doing (copy receiving c q)) = refl
-length-progress-words (doing (clear receiving c q)) = refl
-length-progress-words (doing (wake receiving c q)) = refl
-length-progress-words (doing (enable-look gs i)) = length-request-words 11 0 0 gs i none
-length-progress-words (doing (raise gs i)) = length-request-words 12 0 0 gs i none
-length-progress-words (doing (place-name gs i)) = length-request-words 13 0 0 gs i none
-length-progress-words (doing (ready-from-look gs i)) = length-request-words 14 0 0 gs i none
-length-progress-words (doing (ready-from-place gs i)) = length-request-words 15 0 0 gs i none
-length-progress-words (doing (wait gs)) = length-request-words 16 0 0 gs 0 none
-length-progress-words (doing (disable gs i r)) = length-request-words 17 0 0 gs i r
-length-progress-words (doing (lower gs i r)) = length-request-words 18 0 0 gs i r
-length-progress-words (doing (finish gs r)) = length-request-words 19 0 0 gs 0 r
-length-progress-words (due go) = refl
-length-progress-words (due (sent c)) = refl
-length-progress-words (due (got c)) = refl
-length-progress-words (due (chose c)) = refl
+length-progress-words x = length-carried-words (packed-as x .0) (packed-as x .1)
 
-pub length-work-words : (w : Work) → length (work-words w) ≡ 3
+pub length-work-words : (w : Work) → length (work-words w) ≡ core-first
 length-work-words (runs p) = refl
 length-work-words (free no-task) = refl
 length-work-words (free (trigger q)) = refl
 length-work-words (free (wake-up q)) = refl
 
-pub length-core-words : (c : Core) → length (core-words c) ≡ 16
+pub length-core-words : (c : Core) → length (core-words c) ≡ core-stride
 unfolding core-words
 length-core-words c = simp length-append (omega (arith, length-work-words (c .work)))
 
-pub length-process-words : (s : State) (p : ℕ) → length (process-words s p) ≡ 24
+pub length-process-words : (s : State) (p : ℕ) → length (process-words s p) ≡ process-stride
 unfolding process-words
 length-process-words s p = simp length-append (omega (arith, length-progress-words (process-of s p .progress)))
 
-pub length-channel-words : (c : Channel) → length (channel-words c) ≡ 4
+pub length-channel-words : (c : Channel) → length (channel-words c) ≡ channel-stride
 unfolding channel-words
 length-channel-words c = refl
 
-length-header-words : (s : State) → length (header-words s) ≡ 8
+length-header-words : (s : State) → length (header-words s) ≡ header-size
 unfolding header-words
 length-header-words s = refl
 
@@ -161,20 +113,20 @@ process-blocks s = flatMap (λ p. process-words s p) (from 1 (length (s .process
 abbrev channel-blocks : State → List ℕ
 channel-blocks s = flatMap (λ c. channel-words (channel-of s c)) (from 1 (length (s .channels)))
 
-length-core-blocks : (s : State) → length (core-blocks s) ≡ 16 * length (s .cores)
-length-core-blocks s = flat-length (λ k. core-words (core-of s k)) 16 (λ k. length-core-words (core-of s k)) 0 (length (s .cores))
+length-core-blocks : (s : State) → length (core-blocks s) ≡ core-stride * length (s .cores)
+length-core-blocks s = flat-length (λ k. core-words (core-of s k)) core-stride (λ k. length-core-words (core-of s k)) 0 (length (s .cores))
 
-length-process-blocks : (s : State) → length (process-blocks s) ≡ 24 * length (s .processes)
-length-process-blocks s = flat-length (λ p. process-words s p) 24 (length-process-words s) 1 (length (s .processes))
+length-process-blocks : (s : State) → length (process-blocks s) ≡ process-stride * length (s .processes)
+length-process-blocks s = flat-length (λ p. process-words s p) process-stride (length-process-words s) 1 (length (s .processes))
 
-length-channel-blocks : (s : State) → length (channel-blocks s) ≡ 4 * length (s .channels)
-length-channel-blocks s = flat-length (λ c. channel-words (channel-of s c)) 4 (λ c. length-channel-words (channel-of s c)) 1 (length (s .channels))
+length-channel-blocks : (s : State) → length (channel-blocks s) ≡ channel-stride * length (s .channels)
+length-channel-blocks s = flat-length (λ c. channel-words (channel-of s c)) channel-stride (λ c. length-channel-words (channel-of s c)) 1 (length (s .channels))
 
 -- how long the parts of a packing are, up to the end of each region
-length-to-cores : (s : State) → length (header-words s ++ core-blocks s) ≡ 8 + 16 * length (s .cores)
+length-to-cores : (s : State) → length (header-words s ++ core-blocks s) ≡ processes-at (length (s .cores))
 length-to-cores s = length-append (header-words s) (core-blocks s) ∙ omega (arith, length-header-words s, length-core-blocks s)
 
-length-to-processes : (s : State) → length (header-words s ++ core-blocks s ++ process-blocks s) ≡ 8 + 16 * length (s .cores) + 24 * length (s .processes)
+length-to-processes : (s : State) → length (header-words s ++ core-blocks s ++ process-blocks s) ≡ channels-at (length (s .cores)) (length (s .processes))
 length-to-processes s =
     length-append (header-words s ++ core-blocks s) (process-blocks s) ∙ omega (arith, length-to-cores s, length-process-blocks s)
 
@@ -189,44 +141,44 @@ pack-holds s = record { size = size; header = at-header; core = at-core; process
         ∙ omega (arith, length-to-processes s, length-channel-blocks s)
 
     -- a word before the end of the processes, and one before the end of the cores
-    before-channels : (i : ℕ) → i < 8 + 16 * length (s .cores) + 24 * length (s .processes)
+    before-channels : (i : ℕ) → i < channels-at (length (s .cores)) (length (s .processes))
         → getD (pack s) i 0 ≡ getD (header-words s ++ core-blocks s ++ process-blocks s) i 0
     before-channels i h = first-part (header-words s ++ core-blocks s ++ process-blocks s) (channel-blocks s) _ i (length-to-processes s) h
 
-    before-processes : (i : ℕ) → i < 8 + 16 * length (s .cores) → getD (pack s) i 0 ≡ getD (header-words s ++ core-blocks s) i 0
+    before-processes : (i : ℕ) → i < processes-at (length (s .cores)) → getD (pack s) i 0 ≡ getD (header-words s ++ core-blocks s) i 0
     before-processes i h =
         before-channels i (omega arith) ∙ first-part (header-words s ++ core-blocks s) (process-blocks s) _ i (length-to-cores s) h
 
-    at-header : (f : ℕ) → f < 8 → getD (pack s) f 0 ≡ getD (header-words s) f 0
-    at-header f h = before-processes f (omega arith) ∙ first-part (header-words s) (core-blocks s) 8 f (length-header-words s) h
+    at-header : (f : ℕ) → f < header-size → getD (pack s) f 0 ≡ getD (header-words s) f 0
+    at-header f h = before-processes f (omega arith) ∙ first-part (header-words s) (core-blocks s) header-size f (length-header-words s) h
 
-    at-core : (k f : ℕ) → k < length (s .cores) → f < 16 → getD (pack s) (core-at k f) 0 ≡ getD (core-words (core-of s k)) f 0
+    at-core : (k f : ℕ) → k < length (s .cores) → f < core-stride → getD (pack s) (core-at k f) 0 ≡ getD (core-words (core-of s k)) f 0
     at-core k f h g =
         before-processes (core-at k f) (omega arith)
-        ∙ ap (λ (i : ℕ). getD (header-words s ++ core-blocks s) i 0) (let e : core-at k f ≡ 8 + (16 * k + f) = omega arith in e)
-        ∙ second-part (header-words s) (core-blocks s) 8 (16 * k + f) (length-header-words s)
-        ∙ flat-at (λ k. core-words (core-of s k)) 16 (λ k. length-core-words (core-of s k)) 0 (length (s .cores)) k f h g
+        ∙ ap (λ (i : ℕ). getD (header-words s ++ core-blocks s) i 0) (let e : core-at k f ≡ header-size + (core-stride * k + f) = omega arith in e)
+        ∙ second-part (header-words s) (core-blocks s) header-size (core-stride * k + f) (length-header-words s)
+        ∙ flat-at (λ k. core-words (core-of s k)) core-stride (λ k. length-core-words (core-of s k)) 0 (length (s .cores)) k f h g
         ∙ ap (λ (i : ℕ). getD (core-words (core-of s i)) f 0) (zero-add k)
 
-    at-process : (p f : ℕ) → 1 ≤ p → p ≤ length (s .processes) → f < 24
+    at-process : (p f : ℕ) → 1 ≤ p → p ≤ length (s .processes) → f < process-stride
         → getD (pack s) (process-at (length (s .cores)) p f) 0 ≡ getD (process-words s p) f 0
     at-process p f l h g =
         before-channels (process-at (length (s .cores)) p f) (omega arith)
         ∙ ap (λ (i : ℕ). getD (header-words s ++ core-blocks s ++ process-blocks s) i 0) place
-        ∙ second-part (header-words s ++ core-blocks s) (process-blocks s) _ (24 * (p - 1) + f) (length-to-cores s)
-        ∙ flat-at (λ p. process-words s p) 24 (length-process-words s) 1 (length (s .processes)) (p - 1) f (omega arith) g
+        ∙ second-part (header-words s ++ core-blocks s) (process-blocks s) _ (process-stride * (p - 1) + f) (length-to-cores s)
+        ∙ flat-at (λ p. process-words s p) process-stride (length-process-words s) 1 (length (s .processes)) (p - 1) f (omega arith) g
         ∙ ap (λ (i : ℕ). getD (process-words s i) f 0) (let e : 1 + (p - 1) ≡ p = omega arith in e)
       where
-        place : process-at (length (s .cores)) p f ≡ 8 + 16 * length (s .cores) + (24 * (p - 1) + f)
+        place : process-at (length (s .cores)) p f ≡ processes-at (length (s .cores)) + (process-stride * (p - 1) + f)
         place = omega arith
 
-    at-channel : (c f : ℕ) → 1 ≤ c → c ≤ length (s .channels) → f < 4
+    at-channel : (c f : ℕ) → 1 ≤ c → c ≤ length (s .channels) → f < channel-stride
         → getD (pack s) (channel-at (length (s .cores)) (length (s .processes)) c f) 0 ≡ getD (channel-words (channel-of s c)) f 0
     at-channel c f l h g =
         ap (λ (i : ℕ). getD (pack s) i 0) place
-        ∙ second-part (header-words s ++ core-blocks s ++ process-blocks s) (channel-blocks s) _ (4 * (c - 1) + f) (length-to-processes s)
-        ∙ flat-at (λ c. channel-words (channel-of s c)) 4 (λ c. length-channel-words (channel-of s c)) 1 (length (s .channels)) (c - 1) f (omega arith) g
+        ∙ second-part (header-words s ++ core-blocks s ++ process-blocks s) (channel-blocks s) _ (channel-stride * (c - 1) + f) (length-to-processes s)
+        ∙ flat-at (λ c. channel-words (channel-of s c)) channel-stride (λ c. length-channel-words (channel-of s c)) 1 (length (s .channels)) (c - 1) f (omega arith) g
         ∙ ap (λ (i : ℕ). getD (channel-words (channel-of s i)) f 0) (let e : 1 + (c - 1) ≡ c = omega arith in e)
       where
-        place : channel-at (length (s .cores)) (length (s .processes)) c f ≡ 8 + 16 * length (s .cores) + 24 * length (s .processes) + (4 * (c - 1) + f)
+        place : channel-at (length (s .cores)) (length (s .processes)) c f ≡ channels-at (length (s .cores)) (length (s .processes)) + (channel-stride * (c - 1) + f)
         place = omega arith

@@ -7,47 +7,18 @@ use native.Mathlib.Omega.{arith}
 use lib.Dec.{T, eqb, lit<}
 use lib.ListN.{length, getD, take}
 use Rattle.rules.specs.Lists.{total, from, member, first, last, follows}
-use Rattle.rules.specs.State.{
-  sending,
-  receiving,
-  look,
-  park,
-  copy,
-  clear,
-  wake,
-  enable-look,
-  raise,
-  place-name,
-  ready-from-look,
-  ready-from-place,
-  wait,
-  disable,
-  lower,
-  finish,
-  go,
-  sent,
-  got,
-  chose,
-  Progress,
-  nothing,
-  doing,
-  due,
-  Core,
-  queues-of,
-  State,
-  wiring,
-}
+use Rattle.rules.specs.State.{Progress, Core, queues-of, State, wiring}
 use Rattle.rules.specs.Items.{core-of, process-of}
-use Rattle.rules.specs.Layout.{process-channel, process-partner, process-index, process-first-ready}
-use Rattle.rules.specs.Packing.{work-words, heads, padded, ready-number, of-channel, of-choice, progress-words, next-link, if-head, head-link, batch-link, pack, word-of-core, word-of-process}
-use Rattle.rules.specs.UsedWords.{guards-used, used-words}
+use Rattle.rules.specs.Layout.{header-size, core-stride, header-spare, core-task, core-task-process, core-first, core-last, core-size, core-first-head, core-last-head, core-spare, process-progress, process-channel, process-partner, process-guards, process-index, process-first-ready, process-first-guard, process-next, process-last, process-size, process-next-head, process-spare, progress-size, guard-places}
+use Rattle.rules.specs.Packing.{Carried, bare, channel-only, channel-partner, guards-only, guards-index, guards-index-ready, guards-ready, packed-as, carried-words, work-words, heads, padded, ready-number, of-channel, of-choice, progress-words, next-link, if-head, head-link, batch-link, header-words, pack, word-of-core, word-of-process}
+use Rattle.rules.specs.UsedWords.{guards-used, used-by, used-words}
 use Rattle.rules.specs.Soundness.{is-process, in-queues}
 use Rattle.rules.specs.Claims.{UnusedOfCore, batches-headed, UnusedOfProcess, UnusedWordsZero}
 use Rattle.rules.proofs.Tests.{or-left, or-right, eqb-means, within-means}
 use Rattle.rules.proofs.Sums.{total-zero}
 use Rattle.rules.proofs.QueueLists.{follows-none, no-next, heads-none}
-use Rattle.rules.proofs.Packing.ReadLaws.{core-list, header-list, read-header, read-core}
-use Rattle.rules.proofs.Packing.Reading.{progress-word, link-word}
+use Rattle.rules.proofs.Packing.Blocks.{pack-holds}
+use Rattle.rules.proofs.Packing.Reading.{queue-words, work-word, queue-word, progress-word, link-word, spare-word}
 
 -- zeros are read where nothing but zeros stands
 zeros : (n i : ℕ) → getD (padded n []) i 0 ≡ 0
@@ -61,18 +32,22 @@ behind [] n i b = zeros n i
 behind (x ∷ l) n zero b = absurd (omega arith)
 behind (x ∷ l) n (suc i) b = behind l n i (omega arith)
 
--- A core: the words that mean nothing where nothing runs or waits, and the last six
+-- A core: the words that mean nothing where nothing runs or waits, and what is left of its record
 
 unused-of-core : (s : State) (k : ℕ) → k < length (s .cores) → UnusedOfCore (core-of s k) (word-of-core (pack s) k)
 unused-of-core s k b =
     let c = core-of s k in
-    let at : (f : ℕ) → f < 16 → word-of-core (pack s) k f ≡ getD (core-list c) f 0 = λ f. read-core s k f b in
+    let work = work-word s k b in
+    let queues = queue-word s k b in
     record {
-      spare = λ f h. let r = within-means 10 15 f h in at f (omega arith) ∙ behind (take 10 (core-list c)) 6 f (omega arith);
-      task = λ p e. (at 1 (lit< tt) ∙ ap (λ w. getD (work-words w) 1 0) e, at 2 (lit< tt) ∙ ap (λ w. getD (work-words w) 2 0) e);
-      task-process = λ e. at 2 (lit< tt) ∙ ap (λ w. getD (work-words w) 2 0) e;
-      active = λ e. (at 3 (lit< tt) ∙ ap first e, at 4 (lit< tt) ∙ ap last e, at 5 (lit< tt) ∙ ap length e);
-      run-queue = λ e. (at 8 (lit< tt) ∙ ap (λ l. first (heads l)) e, at 9 (lit< tt) ∙ ap (λ l. last (heads l)) e);
+      spare = λ f low high.
+          let e : core-first + (f - core-first) ≡ f = omega arith in
+          rw (← e) (queues (f - core-first) (omega arith)
+          ∙ behind (take (core-spare - core-first) (queue-words c)) (core-stride - core-spare) (f - core-first) (omega arith));
+      task = λ p e. (work core-task (lit< tt) ∙ ap (λ w. getD (work-words w) core-task 0) e, work core-task-process (lit< tt) ∙ ap (λ w. getD (work-words w) core-task-process 0) e);
+      task-process = λ e. work core-task-process (lit< tt) ∙ ap (λ w. getD (work-words w) core-task-process 0) e;
+      active = λ e. (queues 0 (lit< tt) ∙ ap first e, queues (core-last - core-first) (lit< tt) ∙ ap last e, queues (core-size - core-first) (lit< tt) ∙ ap length e);
+      run-queue = λ e. (queues (core-first-head - core-first) (lit< tt) ∙ ap (λ l. first (heads l)) e, queues (core-last-head - core-first) (lit< tt) ∙ ap (λ l. last (heads l)) e);
     }
 
 -- A progress: its words have one of two shapes
@@ -83,7 +58,7 @@ ZeroUnless used f v = (T (member f used) → ⊥) → v ≡ 0
 
 -- each word behind the progress's number is
 abbrev Unused : List ℕ → List ℕ → Type 0
-Unused used l = (i : ℕ) → 1 ≤ i → ZeroUnless used (6 + i) (getD l i 0)
+Unused used l = (i : ℕ) → 1 ≤ i → ZeroUnless used (process-progress + i) (getD l i 0)
 
 -- with a channel and a partner
 channel-unused : (used : List ℕ) (number c q : ℕ) → ZeroUnless used process-channel c → ZeroUnless used process-partner q
@@ -91,7 +66,7 @@ channel-unused : (used : List ℕ) (number c q : ℕ) → ZeroUnless used proces
 channel-unused used number c q channel partner zero l h = absurd (omega arith)
 channel-unused used number c q channel partner (suc zero) l h = channel h
 channel-unused used number c q channel partner (suc (suc zero)) l h = partner h
-channel-unused used number c q channel partner (suc (suc (suc i))) l h = zeros 11 i
+channel-unused used number c q channel partner (suc (suc (suc i))) l h = zeros (progress-size - 3) i
 
 -- a guard's word, of those from a on, behind as many as there are guards
 guard-unused : (a n : ℕ) (gs : List ℕ) (i : ℕ) → ZeroUnless (from a (length gs)) (a + i) (getD (padded n gs) i 0)
@@ -112,58 +87,29 @@ choice-unused : (more : List ℕ) (number : ℕ) (gs : List ℕ) (i : ℕ) (r : 
 choice-unused more number gs i r index ready zero l h = absurd (omega arith)
 choice-unused more number gs i r index ready (suc zero) l h = refl
 choice-unused more number gs i r index ready (suc (suc zero)) l h = refl
-choice-unused more number gs i r index ready (suc (suc (suc zero))) l h = absurd (h (member-behind 9 more (guards-used gs) tt))
+choice-unused more number gs i r index ready (suc (suc (suc zero))) l h = absurd (h (member-behind process-guards more (guards-used gs) tt))
 choice-unused more number gs i r index ready (suc (suc (suc (suc zero)))) l h = index h
 choice-unused more number gs i r index ready (suc (suc (suc (suc (suc zero))))) l h = ready h
 choice-unused more number gs i r index ready (suc (suc (suc (suc (suc (suc j)))))) l h =
-    let f : ℕ = 6 + suc (suc (suc (suc (suc (suc j))))) in
-    let e : 12 + j ≡ f = omega arith in
-    guard-unused 12 8 gs j (λ m. h (member-behind f more (guards-used gs) (or-right (eqb 9 f) _ (rw e at m))))
+    let f : ℕ = process-progress + suc (suc (suc (suc (suc (suc j))))) in
+    let e : process-first-guard + j ≡ f = omega arith in
+    guard-unused process-first-guard guard-places gs j (λ m. h (member-behind f more (guards-used gs) (or-right (eqb process-guards f) _ (rw e at m))))
 
--- the shapes that occur: nothing, a channel, a channel and a partner; guards with an index, or with a first ready guard besides
-no-request : (number : ℕ) → Unused [] (of-channel number 0 0)
-no-request number = channel-unused [] number 0 0 (λ h. refl) (λ h. refl)
-
-on-channel : (number c : ℕ) → Unused (process-channel ∷ []) (of-channel number c 0)
-on-channel number c = channel-unused (process-channel ∷ []) number c 0 (λ h. absurd (h tt)) (λ h. refl)
-
-with-partner : (number c q : ℕ) → Unused (process-channel ∷ process-partner ∷ []) (of-channel number c q)
-with-partner number c q = channel-unused (process-channel ∷ process-partner ∷ []) number c q (λ h. absurd (h tt)) (λ h. absurd (h tt))
-
-at-guard : (number : ℕ) (gs : List ℕ) (i : ℕ) → Unused (process-index ∷ guards-used gs) (of-choice number gs i none)
-at-guard number gs i = choice-unused (process-index ∷ []) number gs i none (λ h. absurd (h tt)) (λ h. refl)
-
-with-ready : (number : ℕ) (gs : List ℕ) (i : ℕ) (r : Option ℕ)
-    → Unused (process-index ∷ process-first-ready ∷ guards-used gs) (of-choice number gs i r)
-with-ready number gs i r =
+-- by what it carries
+carried-unused : (number : ℕ) (x : Carried) → Unused (used-by x) (carried-words number x)
+carried-unused number bare = channel-unused [] number 0 0 (λ h. refl) (λ h. refl)
+carried-unused number (channel-only c) = channel-unused (process-channel ∷ []) number c 0 (λ h. absurd (h tt)) (λ h. refl)
+carried-unused number (channel-partner c q) =
+    channel-unused (process-channel ∷ process-partner ∷ []) number c q (λ h. absurd (h tt)) (λ h. absurd (h tt))
+carried-unused number (guards-only gs) = choice-unused [] number gs 0 none (λ h. refl) (λ h. refl)
+carried-unused number (guards-index gs i) = choice-unused (process-index ∷ []) number gs i none (λ h. absurd (h tt)) (λ h. refl)
+carried-unused number (guards-index-ready gs i r) =
     choice-unused (process-index ∷ process-first-ready ∷ []) number gs i r (λ h. absurd (h tt)) (λ h. absurd (h tt))
+carried-unused number (guards-ready gs r) = choice-unused (process-first-ready ∷ []) number gs 0 r (λ h. refl) (λ h. absurd (h tt))
 
 progress-unused : (x : Progress) → Unused (used-words x) (progress-words x)
 unfolding progress-words
-progress-unused nothing = no-request 0
-progress-unused (doing (look sending c)) = on-channel 1 c
-progress-unused (doing (park sending c)) = on-channel 2 c
-progress-unused (doing (copy sending c q)) = with-partner 3 c q
-progress-unused (doing (clear sending c q)) = with-partner 4 c q
-progress-unused (doing (wake sending c q)) = with-partner 5 c q
-progress-unused (doing (look receiving c)) = on-channel 6 c
-progress-unused (doing (park receiving c)) = on-channel 7 c
-progress-unused (doing (copy receiving c q)) = with-partner 8 c q
-progress-unused (doing (clear receiving c q)) = with-partner 9 c q
-progress-unused (doing (wake receiving c q)) = with-partner 10 c q
-progress-unused (doing (enable-look gs i)) = at-guard 11 gs i
-progress-unused (doing (raise gs i)) = at-guard 12 gs i
-progress-unused (doing (place-name gs i)) = at-guard 13 gs i
-progress-unused (doing (ready-from-look gs i)) = at-guard 14 gs i
-progress-unused (doing (ready-from-place gs i)) = at-guard 15 gs i
-progress-unused (doing (wait gs)) = choice-unused [] 16 gs 0 none (λ h. refl) (λ h. refl)
-progress-unused (doing (disable gs i r)) = with-ready 17 gs i r
-progress-unused (doing (lower gs i r)) = with-ready 18 gs i r
-progress-unused (doing (finish gs r)) = choice-unused (process-first-ready ∷ []) 19 gs 0 r (λ h. refl) (λ h. absurd (h tt))
-progress-unused (due go) = no-request 20
-progress-unused (due (sent c)) = on-channel 21 c
-progress-unused (due (got c)) = on-channel 22 c
-progress-unused (due (chose c)) = on-channel 23 c
+progress-unused x = carried-unused (packed-as x .0) (packed-as x .1)
 
 -- A process
 
@@ -188,18 +134,25 @@ unused-of-process s p there =
     let (low, high) = within-means 1 (length (s .processes)) p there in
     let link = link-word s p low high in
     record {
-      in-hand = λ f b h.
-          let r = within-means 7 19 f b in
-          let e : 6 + (f - 6) ≡ f = omega arith in
-          rw (← e) (progress-word s p low high (f - 6) (omega arith) ∙ progress-unused (process-of s p .progress) (f - 6) (omega arith) (rw e h));
+      in-hand = λ f from to h.
+          let e : process-progress + (f - process-progress) ≡ f = omega arith in
+          rw (← e) (progress-word s p low high (f - process-progress) (omega arith)
+          ∙ progress-unused (process-of s p .progress) (f - process-progress) (omega arith) (rw e h));
       next = λ e. link 0 (lit< tt) ∙ next-unused s p e;
-      batch = λ e. (link 1 (lit< tt) ∙ head-unused s p _ e, link 2 (lit< tt) ∙ head-unused s p _ e, link 3 (lit< tt) ∙ next-head-unused s p e);
+      batch = λ e. (
+        link (process-last - process-next) (lit< tt) ∙ head-unused s p _ e,
+        link (process-size - process-next) (lit< tt) ∙ head-unused s p _ e,
+        link (process-next-head - process-next) (lit< tt) ∙ next-head-unused s p e,
+      );
+      spare = λ f from to.
+          let e : process-spare + (f - process-spare) ≡ f = omega arith in rw (← e) (spare-word s p low high (f - process-spare) (omega arith));
     }
 
 -- Words that mean nothing are 0.
 pub unused-words-zero : UnusedWordsZero
+unfolding header-words
 unused-words-zero = record {
-  header = λ s f b. let r = within-means 3 7 f b in read-header s f (omega arith) ∙ behind (take 3 (header-list s)) 5 f (omega arith);
+  header = λ s f low high. pack-holds s .header f high ∙ behind (take header-spare (header-words s)) (header-size - header-spare) f low;
   cores = unused-of-core;
   processes = unused-of-process;
 }

@@ -9,6 +9,7 @@ use borrow.Author.Tests.{eq-eqb, ne-eqb}
 use Rattle.rules.specs.Lists.{if_then_else_}
 use Rattle.rules.specs.State.{ChannelWord, nobody, plain, choosing, State, Wiring, wiring}
 use Rattle.rules.specs.Items.{channel-of}
+use Rattle.rules.specs.Layout.{channel-stride, channel-writer, channel-reader, channel-holder, channel-transfers}
 use Rattle.rules.specs.Packing.{word-number, word-numbered, channel-words, pack, word-of-channel, view-channel}
 use Rattle.rules.specs.Soundness.{valid-word}
 use Rattle.rules.proofs.Tests.{within-means, not-zero}
@@ -38,9 +39,9 @@ pub view-channel-back : (s : State) → Valid s → (c : ℕ) → 1 ≤ c → c 
 unfolding view-channel channel-words
 view-channel-back s v c l b =
     let x = channel-of s c in
-    let at : (f : ℕ) → f < 4 → word-of-channel (pack s) c f ≡ getD (channel-words x) f 0 = λ f. channel-word-of-pack s c f l b in
-    let writer = at 0 (lit< tt) in
-    let reader = at 1 (lit< tt) in
-    let word = ap word-numbered (at 2 (lit< tt)) ∙ word-back (wiring s) (x .word) (v .channels c l b .word) in
-    let transfers = at 3 (lit< tt) in
+    let at : (f : ℕ) → f < channel-stride → word-of-channel (pack s) c f ≡ getD (channel-words x) f 0 = λ f. channel-word-of-pack s c f l b in
+    let writer = at channel-writer (lit< tt) in
+    let reader = at channel-reader (lit< tt) in
+    let word = ap word-numbered (at channel-holder (lit< tt)) ∙ word-back (wiring s) (x .word) (v .channels c l b .word) in
+    let transfers = at channel-transfers (lit< tt) in
     λ i. record { ends = record { writer = writer i; reader = reader i }; word = word i; transfers = transfers i }

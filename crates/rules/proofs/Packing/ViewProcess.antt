@@ -1,5 +1,5 @@
 -- A process is read back from its words.
-use Prim.Native.Nat.{ℕ, zero, suc, _+_, _≤_, _<_}
+use Prim.Native.Nat.{ℕ, zero, suc, _+_, _-_, _≤_, _<_}
 use mathlib.Core.Path.{_≡_, refl, sym, ap, _∙_}
 use mathlib.Core.Bool.{Bool}
 use mathlib.Core.List.{List, [], _∷_}
@@ -44,6 +44,7 @@ use Rattle.rules.specs.State.{
   wiring,
 }
 use Rattle.rules.specs.Items.{process-of}
+use Rattle.rules.specs.Layout.{process-place, process-data, process-enabling, process-not-ready, process-waiting, process-count, process-progress, process-channel, process-partner, process-guards, process-index, process-first-ready, process-first-guard, progress-size, guard-places, at-enable-look, at-raise, at-place-name, at-ready-from-look, at-ready-from-place, at-wait, at-disable, at-lower, at-finish}
 use Rattle.rules.specs.Packing.{
   place-number,
   ready-number,
@@ -62,8 +63,7 @@ use Rattle.rules.proofs.Packing.Blocks.{length-progress-words}
 use Rattle.rules.proofs.Tabulate.{tabulate-back}
 use Rattle.rules.proofs.Tests.{both, three, within-means, not-zero}
 use Rattle.rules.proofs.Packing.Reflect.{Valid}
-use Rattle.rules.proofs.Packing.ReadLaws.{state-words}
-use Rattle.rules.proofs.Packing.Reading.{bit-back, state-word, progress-word}
+use Rattle.rules.proofs.Packing.Reading.{bit-back, state-words, state-word, progress-word}
 
 -- a place is read back from its number
 place-back : (x : Place) → place-numbered (place-number x) ≡ x
@@ -84,10 +84,12 @@ ready-back : (gs : List ℕ) (r : Option ℕ) → T (ready-in-list gs r) → rea
 ready-back gs none h = refl
 ready-back gs (some i) h = ap (λ (t : Bool). if t then none else some i) (not-zero i (within-means 1 (length gs) i h .0))
 
--- the progress of 14 words: number, channel, partner, number of guards, index, first ready guard, guards
+-- the progress of a progress's words: number, channel, partner, number of guards, index, first ready guard, guards
 abbrev progress-of-words : List ℕ → Progress
 progress-of-words l =
-    progress-numbered (getD l 0 0) (getD l 1 0) (getD l 2 0) (take (getD l 3 0) (drop 6 l)) (getD l 4 0) (ready-numbered (getD l 5 0))
+    let w : ℕ → ℕ = λ f. getD l (f - process-progress) 0 in
+    let guards = take (w process-guards) (drop (process-first-guard - process-progress) l) in
+    progress-numbered (w process-progress) (w process-channel) (w process-partner) guards (w process-index) (ready-numbered (w process-first-ready))
 
 module _ (w : Wiring) (p : ℕ) where
   -- the words of a choice, as those of a progress: its guards and its first ready guard are read back
@@ -95,7 +97,7 @@ module _ (w : Wiring) (p : ℕ) where
       → progress-of-words (of-choice number gs i r) ≡ progress-numbered number 0 0 gs i r
   choice-back number gs i r h g =
       let t = three (within 1 8 (length gs)) (all (own-end w receiving p) gs) (distinct gs) h in
-      let guards : take (length gs) (padded 8 gs) ≡ gs = padded-back 8 gs (within-means 1 8 (length gs) (t .0) .1) in
+      let guards : take (length gs) (padded guard-places gs) ≡ gs = padded-back guard-places gs (within-means 1 8 (length gs) (t .0) .1) in
       let ready : ready-numbered (ready-number r) ≡ r = ready-back gs r g in
       cc
 
@@ -124,44 +126,59 @@ module _ (w : Wiring) (p : ℕ) where
   progress-back (doing (copy receiving c q)) h = refl
   progress-back (doing (clear receiving c q)) h = refl
   progress-back (doing (wake receiving c q)) h = refl
-  progress-back (doing (enable-look gs i)) h = enabling-back 11 gs i h
-  progress-back (doing (raise gs i)) h = enabling-back 12 gs i h
-  progress-back (doing (place-name gs i)) h = enabling-back 13 gs i h
-  progress-back (doing (ready-from-look gs i)) h = enabling-back 14 gs i h
-  progress-back (doing (ready-from-place gs i)) h = enabling-back 15 gs i h
-  progress-back (doing (wait gs)) h = choice-back 16 gs 0 none h tt
-  progress-back (doing (disable gs i r)) h = disabling-back 17 gs i r h
-  progress-back (doing (lower gs i r)) h = disabling-back 18 gs i r h
-  progress-back (doing (finish gs r)) h = let t = both (own-guards w p gs) (ready-in-list gs r) h in choice-back 19 gs 0 r (t .0) (t .1)
+  progress-back (doing (enable-look gs i)) h = enabling-back at-enable-look gs i h
+  progress-back (doing (raise gs i)) h = enabling-back at-raise gs i h
+  progress-back (doing (place-name gs i)) h = enabling-back at-place-name gs i h
+  progress-back (doing (ready-from-look gs i)) h = enabling-back at-ready-from-look gs i h
+  progress-back (doing (ready-from-place gs i)) h = enabling-back at-ready-from-place gs i h
+  progress-back (doing (wait gs)) h = choice-back at-wait gs 0 none h tt
+  progress-back (doing (disable gs i r)) h = disabling-back at-disable gs i r h
+  progress-back (doing (lower gs i r)) h = disabling-back at-lower gs i r h
+  progress-back (doing (finish gs r)) h = let t = both (own-guards w p gs) (ready-in-list gs r) h in choice-back at-finish gs 0 r (t .0) (t .1)
   progress-back (due go) h = refl
   progress-back (due (sent c)) h = refl
   progress-back (due (got c)) h = refl
   progress-back (due (chose c)) h = refl
 
 module _ (s : State) (v : Valid s) (p : ℕ) (l : 1 ≤ p) (b : p ≤ length (s .processes)) where
-  -- the eight words of a process from the 12th on are those of its guards
-  guard-words : tabulate (word-of-process (pack s) p) 12 8 ≡ drop 6 (progress-words (process-of s p .progress))
-  guard-words = tabulate-back (word-of-process (pack s) p) 12 8 0 (drop 6 words) (sym size) each
+  -- how many words of a progress stand before its guards
+  abbrev before : ℕ
+  before = process-first-guard - process-progress
+
+  -- the words of a process where its guards stand
+  guard-words : tabulate (word-of-process (pack s) p) process-first-guard guard-places ≡ drop before (progress-words (process-of s p .progress))
+  guard-words = tabulate-back (word-of-process (pack s) p) process-first-guard guard-places 0 (drop before words) (sym size) each
     where
       words : List ℕ
       words = progress-words (process-of s p .progress)
 
-      size : length (drop 6 words) ≡ 8
+      size : length (drop before words) ≡ guard-places
       size = simp length-drop (omega (arith, length-progress-words (process-of s p .progress)))
 
-      each : (i : ℕ) → i < length (drop 6 words) → word-of-process (pack s) p (12 + i) ≡ getD (drop 6 words) i 0
+      each : (i : ℕ) → i < length (drop before words) → word-of-process (pack s) p (process-first-guard + i) ≡ getD (drop before words) i 0
       each i c =
-          let e : 12 + i ≡ 6 + (6 + i) = omega arith in
-          ap (word-of-process (pack s) p) e ∙ progress-word s p l b (6 + i) (omega (arith, size)) ∙ sym (getD-drop 6 words i 0)
+          let e : process-first-guard + i ≡ process-progress + (before + i) = omega arith in
+          ap (word-of-process (pack s) p) e ∙ progress-word s p l b (before + i) (omega (arith, size)) ∙ sym (getD-drop before words i 0)
 
   -- its progress is read back
   progress-read : let w = word-of-process (pack s) p in
-      progress-numbered (w 6) (w 7) (w 8) (take (w 9) (tabulate w 12 8)) (w 10) (ready-numbered (w 11)) ≡ process-of s p .progress
+      let guards = take (w process-guards) (tabulate w process-first-guard guard-places) in
+      progress-numbered (w process-progress) (w process-channel) (w process-partner) guards (w process-index) (ready-numbered (w process-first-ready))
+      ≡ process-of s p .progress
   progress-read =
       let x = process-of s p .progress in
-      let at : (f : ℕ) → f < 14 → word-of-process (pack s) p (6 + f) ≡ getD (progress-words x) f 0 = progress-word s p l b in
+      let at : (f : ℕ) → f < progress-size → word-of-process (pack s) p (process-progress + f) ≡ getD (progress-words x) f 0 = progress-word s p l b in
       let back = progress-back (wiring s) p x (v .processes p l b .in-hand) in
-      cc (at 0 (lit< tt), at 1 (lit< tt), at 2 (lit< tt), at 3 (lit< tt), at 4 (lit< tt), at 5 (lit< tt), guard-words, back)
+      cc (
+        at 0 (lit< tt),
+        at (process-channel - process-progress) (lit< tt),
+        at (process-partner - process-progress) (lit< tt),
+        at (process-guards - process-progress) (lit< tt),
+        at (process-index - process-progress) (lit< tt),
+        at (process-first-ready - process-progress) (lit< tt),
+        guard-words,
+        back,
+      )
 
   -- A process is read back from the packing of a valid state.
   pub view-process-back : view-process (pack s) p ≡ process-of s p
@@ -169,13 +186,13 @@ module _ (s : State) (v : Valid s) (p : ℕ) (l : 1 ≤ p) (b : p ≤ length (s 
   view-process-back =
       let r = process-of s p in
       let w : ℕ → ℕ = word-of-process (pack s) p in
-      let at : (f : ℕ) → f < 6 → w f ≡ getD (state-words r) f 0 = state-word s p l b in
-      let place = ap place-numbered (at 0 (lit< tt)) ∙ place-back (r .place) in
-      let data-word = at 1 (lit< tt) in
-      let enabling = bit-back (w 2) (r .alternation .enabling) (at 2 (lit< tt)) in
-      let not-ready = bit-back (w 3) (r .alternation .not-ready) (at 3 (lit< tt)) in
-      let waiting = bit-back (w 4) (r .alternation .waiting) (at 4 (lit< tt)) in
-      let count = at 5 (lit< tt) in
+      let at : (f : ℕ) → f < process-progress → w f ≡ getD (state-words r) f 0 = state-word s p l b in
+      let place = ap place-numbered (at process-place (lit< tt)) ∙ place-back (r .place) in
+      let data-word = at process-data (lit< tt) in
+      let enabling = bit-back (w process-enabling) (r .alternation .enabling) (at process-enabling (lit< tt)) in
+      let not-ready = bit-back (w process-not-ready) (r .alternation .not-ready) (at process-not-ready (lit< tt)) in
+      let waiting = bit-back (w process-waiting) (r .alternation .waiting) (at process-waiting (lit< tt)) in
+      let count = at process-count (lit< tt) in
       λ i. record {
         place = place i;
         data-word = data-word i;
