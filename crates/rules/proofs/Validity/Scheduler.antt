@@ -39,7 +39,7 @@ use Rattle.rules.specs.State.{
   State,
   Wiring,
 }
-use Rattle.rules.specs.Items.{core, place, progress, get, put, no-core, core-of, process-of}
+use Rattle.rules.specs.Items.{no-core, core-of, process-of, core, place, progress, with-field, get, put}
 use Rattle.rules.specs.Rule.{run}
 use Rattle.rules.specs.Scheduler.{taken, take-step, stored, store-step, load-step, schedule, stage-step, running-step, work-step, step}
 use Rattle.rules.specs.Soundness.{
@@ -60,7 +60,7 @@ use Rattle.rules.proofs.Tests.{and-means, all-append}
 use Rattle.rules.proofs.Sums.{total-append, counts-once}
 use Rattle.rules.proofs.Good.{Good}
 use Rattle.rules.proofs.Validity.Reflect.{Valid, good-of}
-use Rattle.rules.proofs.Validity.Changes.{with-place, with-progress, refit, Open, open-at, close, change, queued-in, queues-after}
+use Rattle.rules.proofs.Validity.Changes.{refit, Open, open-at, close, change, queued-in, queues-after}
 use Rattle.rules.proofs.Validity.Places.{stands-once, core-good, same-standing, taken-off, Runs, running-good, works-on, runs-there}
 use Rattle.rules.proofs.Validity.Rules.{Accepts, reports-clears}
 use Rattle.rules.proofs.Validity.Steps.{look-keeps, park-keeps, copy-keeps, clear-keeps, wake-keeps}
@@ -141,8 +141,8 @@ module _ {w : Wiring} {k : ℕ} {s : State} (v : Valid w s) (on : k < w .K) wher
           put place p running
           (put core k (record { work = runs p; active = rest; dispatch = n; mark = core-of s k .mark; run-queue = core-of s k .run-queue }) s)
 
-      o : Open w p (with-place running (process-of s p)) 1 0 now
-      o = change (with-place running) (taken-off k (head-open p rest active) on rest n no-task work active dispatch refl refl)
+      o : Open w p (with-field place running (process-of s p)) 1 0 now
+      o = change (with-field place running) (taken-off k (head-open p rest active) on rest n no-task work active dispatch refl refl)
 
       g : Good w p (process-of s p) (on-cores s p) (in-queues s p)
       g = good-of p v (o .named)
@@ -156,7 +156,7 @@ module _ {w : Wiring} {k : ℕ} {s : State} (v : Valid w s) (on : k < w .K) wher
       by-progress (doing x) e = goes-on (rw e tt)
       by-progress (due out) e =
           reports-clears (Valid w) now p out
-          (close (change (with-progress nothing) o) (refit g running nothing tt tt tt))
+          (close (change (with-field progress nothing) o) (refit g running nothing tt tt tt))
 
   -- whichever of the four it is
   schedule-keeps : (n : ℕ) (a : List ℕ) (b : List (List ℕ)) → core-of s k .work ≡ free no-task → core-of s k .dispatch ≡ n → core-of s k .active ≡ a
