@@ -5,7 +5,7 @@ use mathlib.Core.Path.{_≡_, refl, sym, ap, subst}
 use mathlib.Core.Bool.{Bool, true, false, _&&_}
 use mathlib.Core.List.{List, map}
 use lib.Dec.{T, eqb}
-use lib.ListN.{length, set, length-set}
+use lib.ListN.{length, length-set}
 use lib.Seq.{set-out, getD-set-same, getD-set-other, map-set-same}
 use borrow.Author.Tests.{eqb-true, eqb-false}
 use Rattle.rules.specs.Lists.{if_then_else_, nth, set-nth, within, all}
