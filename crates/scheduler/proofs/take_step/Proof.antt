@@ -3,14 +3,14 @@ use native.Mathlib.Omega.{arith}
 use Rattle.scheduler.proofs.Known.{free-core}
 use Rattle.scheduler.proofs.Take.{can-take-first, head-has, take-moved, take-reports}
 use borrow.Author.Needs.{needs}
-use Rattle.scheduler.proofs.take_head.Statement.{statement}
-use Rattle.scheduler.proofs.take_head.Tie as tie
+use Rattle.scheduler.proofs.take_step.Statement.{statement}
+use Rattle.scheduler.proofs.take_step.Tie as tie
 
 core-word-requires : tie.Need-core-word-requires
-core-word-requires c κs = free-core (c .before .before .pre .free) .word-3
+core-word-requires c κs = let here = free-core (c .before .before .pre .free) in omega arith
 
 core-word-requires-2 : tie.Need-core-word-requires-2
-core-word-requires-2 c κs = free-core (c .before .before .before .before .pre .free) .word-6
+core-word-requires-2 c κs = let here = free-core (c .before .before .before .before .pre .free) in omega arith
 
 sub-run-first : tie.Need-sub-run-first
 sub-run-first c = search needs
@@ -46,8 +46,8 @@ returns-2 c =
     take-reports (c .before .before .before .before .before .before .before .before .before .before .before .before .before .before .before .before .before .before .pre) (c .before .before .before .before .before .before .before .before .before .before .before .before .before .before .before .core-word .ensures) (c .before .before .before .before .before .before .before .before .before .before .before .before .before .core-word2 .ensures) (c .before .before .before .before .before .before .before .before .before .before .before .run-first .ensures)
     (c .before .before .before .before .before .before .before .process-word .ensures) (omega arith) (c .before .before .before .before .process-word2 .ensures) (c .before .before .reports .ensures .1) (c .before .before .reports .ensures .0)
 
-pub take-head-spec : {M : Type 1} → statement M
-take-head-spec =
+pub take-step-spec : {M : Type 1} → statement M
+take-step-spec =
     tie.close
     (tie.spec
     core-word-requires
