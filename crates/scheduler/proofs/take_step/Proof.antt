@@ -19,7 +19,10 @@ run-first-requires : tie.Need-run-first-requires
 run-first-requires c κs = can-take-first (c .before .before .before .before .before .before .pre) (c .before .before .before .core-word .ensures)
 
 process-word-requires : tie.Need-process-word-requires
-process-word-requires c κs = let here = head-has (c .before .before .before .before .before .before .before .before .before .before .pre) (c .before .before .before .before .before .before .before .core-word .ensures) in omega arith
+process-word-requires c κs =
+    let first = c .before .before .before .before .before .before .before in
+    let here = head-has (first .before .before .before .pre) (first .core-word .ensures) in
+    omega arith
 
 moved-requires : tie.Need-moved-requires
 moved-requires c κs = search needs
@@ -29,22 +32,38 @@ same-length c = search needs
 
 returns : tie.Need-returns
 returns c =
-    take-moved (c .before .before .before .before .before .before .before .before .before .before .before .before .before .pre) (c .before .before .before .before .before .before .before .before .before .before .core-word .ensures) (c .before .before .before .before .before .before .before .before .core-word2 .ensures) (c .before .before .before .before .before .before .run-first .ensures)
-    (c .before .before .process-word .ensures) (omega arith) (c .moved .ensures)
+    let number = c .before .before in
+    let taken = number .before .before .before .before in
+    let count = taken .before .before in
+    let first = count .before .before in
+    take-moved (first .before .before .before .pre) (first .core-word .ensures) (count .core-word2 .ensures) (taken .run-first .ensures)
+    (number .process-word .ensures) (omega arith) (c .moved .ensures)
 
 process-word-requires-2 : tie.Need-process-word-requires-2
-process-word-requires-2 c κs = let here = head-has (c .before .before .before .before .before .before .before .before .before .before .before .before .before .pre) (c .before .before .before .before .before .before .before .before .before .before .core-word .ensures) in omega arith
+process-word-requires-2 c κs =
+    let first = c .before .before .before .before .before .before .before .before .before .before in
+    let here = head-has (first .before .before .before .pre) (first .core-word .ensures) in
+    omega arith
 
 reports-requires : tie.Need-reports-requires
-reports-requires c κs = let here = head-has (c .before .before .before .before .before .before .before .before .before .before .before .before .before .before .before .pre) (c .before .before .before .before .before .before .before .before .before .before .before .before .core-word .ensures) in omega arith
+reports-requires c κs =
+    let first = c .before .before .before .before .before .before .before .before .before .before .before .before in
+    let here = head-has (first .before .before .before .pre) (first .core-word .ensures) in
+    omega arith
 
 same-length-2 : tie.Need-same-length-2
 same-length-2 c = search needs
 
 returns-2 : tie.Need-returns-2
 returns-2 c =
-    take-reports (c .before .before .before .before .before .before .before .before .before .before .before .before .before .before .before .before .before .before .pre) (c .before .before .before .before .before .before .before .before .before .before .before .before .before .before .before .core-word .ensures) (c .before .before .before .before .before .before .before .before .before .before .before .before .before .core-word2 .ensures) (c .before .before .before .before .before .before .before .before .before .before .before .run-first .ensures)
-    (c .before .before .before .before .before .before .before .process-word .ensures) (omega arith) (c .before .before .before .before .process-word2 .ensures) (c .before .before .reports .ensures .1) (c .before .before .reports .ensures .0)
+    let reported = c .before .before in
+    let channel = reported .before .before in
+    let number = channel .before .before .before in
+    let taken = number .before .before .before .before in
+    let count = taken .before .before in
+    let first = count .before .before in
+    take-reports (first .before .before .before .pre) (first .core-word .ensures) (count .core-word2 .ensures) (taken .run-first .ensures)
+    (number .process-word .ensures) (omega arith) (channel .process-word2 .ensures) (reported .reports .ensures .1) (reported .reports .ensures .0)
 
 pub take-step-spec : {M : Type 1} → statement M
 take-step-spec =
