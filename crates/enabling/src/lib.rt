@@ -13,9 +13,9 @@ pub fn enable_look(t: &mut [u32], cores: usize, processes: usize, k: usize, p: u
         (now (t .entry)) r (now (t .exit)) ⌝ }
 {
     if guards::guard_word(t, cores, processes, p) == 0 {
-        parts::move_on(t, cores, p, 12)
+        parts::move_on(t, cores, p, layout::AT_RAISE)
     } else {
-        parts::move_on(t, cores, p, 14)
+        parts::move_on(t, cores, p, layout::AT_READY_FROM_LOOK)
     }
 }
 
@@ -25,12 +25,12 @@ pub fn raise_count(t: &mut [u32], cores: usize, processes: usize, k: usize, p: u
     ensures { λ r. ⌜ Does (raise-step p (guards-at (now (t .entry)) cores p) (index-at (now (t .entry)) cores p))
         (now (t .entry)) r (now (t .exit)) ⌝ }
 {
-    let count = table::process_word(t, cores, p, 5);
+    let count = table::process_word(t, cores, p, layout::PROCESS_COUNT);
     if count == 9 {
         return answers::refused(answers::FAULT);
     }
-    table::set_process_word(t, cores, p, 5, count + 1);
-    parts::move_on(t, cores, p, 13)
+    table::set_process_word(t, cores, p, layout::PROCESS_COUNT, count + 1);
+    parts::move_on(t, cores, p, layout::AT_PLACE_NAME)
 }
 
 // Place: if the word is still 0 it becomes one's name with the low bit set; otherwise next ready.
@@ -41,9 +41,9 @@ pub fn place_name(t: &mut [u32], cores: usize, processes: usize, k: usize, p: u3
 {
     if guards::guard_word(t, cores, processes, p) == 0 {
         guards::set_guard_word(t, cores, processes, p, words::choosing_name(p));
-        guards::next_guard(t, cores, p, 11, 16)
+        guards::next_guard(t, cores, p, layout::AT_ENABLE_LOOK, layout::AT_WAIT)
     } else {
-        parts::move_on(t, cores, p, 15)
+        parts::move_on(t, cores, p, layout::AT_READY_FROM_PLACE)
     }
 }
 
@@ -53,8 +53,8 @@ pub fn ready_from_look(t: &mut [u32], cores: usize, processes: usize, k: usize, 
     ensures { λ r. ⌜ Does (ready-from-look-step p (guards-at (now (t .entry)) cores p) (index-at (now (t .entry)) cores p))
         (now (t .entry)) r (now (t .exit)) ⌝ }
 {
-    table::set_process_word(t, cores, p, 3, 0);
-    guards::next_guard(t, cores, p, 11, 16)
+    table::set_process_word(t, cores, p, layout::PROCESS_NOT_READY, 0);
+    guards::next_guard(t, cores, p, layout::AT_ENABLE_LOOK, layout::AT_WAIT)
 }
 
 // Ready, from place: clear not-ready, and count - 1.
@@ -63,11 +63,11 @@ pub fn ready_from_place(t: &mut [u32], cores: usize, processes: usize, k: usize,
     ensures { λ r. ⌜ Does (ready-from-place-step p (guards-at (now (t .entry)) cores p) (index-at (now (t .entry)) cores p))
         (now (t .entry)) r (now (t .exit)) ⌝ }
 {
-    let count = table::process_word(t, cores, p, 5);
+    let count = table::process_word(t, cores, p, layout::PROCESS_COUNT);
     if count == 0 {
         return answers::refused(answers::FAULT);
     }
-    table::set_process_word(t, cores, p, 3, 0);
-    table::set_process_word(t, cores, p, 5, count - 1);
-    guards::next_guard(t, cores, p, 11, 16)
+    table::set_process_word(t, cores, p, layout::PROCESS_NOT_READY, 0);
+    table::set_process_word(t, cores, p, layout::PROCESS_COUNT, count - 1);
+    guards::next_guard(t, cores, p, layout::AT_ENABLE_LOOK, layout::AT_WAIT)
 }
