@@ -31,7 +31,7 @@ fn set_flags(t: &mut [u32], cores: usize, p: u32, enabling: u32, unready: u32, w
 }
 
 // Wait: if not-ready is set, clear enabling and not-ready, set waiting, asleep; otherwise clear enabling. Disabling comes next.
-pub fn wait_for(t: &mut [u32], cores: usize, processes: usize, k: usize, p: u32) -> Reply
+pub fn wait_step(t: &mut [u32], cores: usize, processes: usize, k: usize, p: u32) -> Reply
     requires { ⌜ At (now t) cores processes k p (wait (guards-at (now t) cores p)) ⌝ }
     ensures { λ r. ⌜ Does (wait-step k p (guards-at (now (t .entry)) cores p)) (now (t .entry)) r (now (t .exit)) ⌝ }
 {
@@ -71,7 +71,7 @@ fn goes_on_ready(t: &mut [u32], cores: usize, p: u32, again: u32, after: u32) ->
 }
 
 // Disable: one's own name becomes 0, next lower; a process's plain name: the guard is ready, the first such is kept; otherwise not.
-pub fn disable_guard(t: &mut [u32], cores: usize, processes: usize, k: usize, p: u32) -> Reply
+pub fn disable_step(t: &mut [u32], cores: usize, processes: usize, k: usize, p: u32) -> Reply
     requires { ⌜ At (now t) cores processes k p (disable (guards-at (now t) cores p) (index-at (now t) cores p) (ready-at (now t) cores p)) ⌝ }
     ensures { λ r. ⌜ Does
         (disable-step p (guards-at (now (t .entry)) cores p) (index-at (now (t .entry)) cores p) (ready-at (now (t .entry)) cores p))
@@ -93,7 +93,7 @@ pub fn disable_guard(t: &mut [u32], cores: usize, processes: usize, k: usize, p:
 }
 
 // Lower: count - 1.
-pub fn lower_count(t: &mut [u32], cores: usize, processes: usize, k: usize, p: u32) -> Reply
+pub fn lower_step(t: &mut [u32], cores: usize, processes: usize, k: usize, p: u32) -> Reply
     requires { ⌜ At (now t) cores processes k p (lower (guards-at (now t) cores p) (index-at (now t) cores p) (ready-at (now t) cores p)) ⌝ }
     ensures { λ r. ⌜ Does (lower-step p (guards-at (now (t .entry)) cores p) (index-at (now (t .entry)) cores p) (ready-at (now (t .entry)) cores p))
         (now (t .entry)) r (now (t .exit)) ⌝ }
@@ -107,7 +107,7 @@ pub fn lower_count(t: &mut [u32], cores: usize, processes: usize, k: usize, p: u
 }
 
 // Finish: no ready guard is a fault; count - 1; at 0 CHOSE with the first ready guard; above 0 asleep, with CHOSE due.
-pub fn finish_choice(t: &mut [u32], cores: usize, processes: usize, k: usize, p: u32) -> Reply
+pub fn finish_step(t: &mut [u32], cores: usize, processes: usize, k: usize, p: u32) -> Reply
     requires { ⌜ At (now t) cores processes k p (finish (guards-at (now t) cores p) (ready-at (now t) cores p)) ⌝ }
     ensures { λ r. ⌜ Does (finish-step k p (guards-at (now (t .entry)) cores p) (ready-at (now (t .entry)) cores p))
         (now (t .entry)) r (now (t .exit)) ⌝ }
@@ -152,7 +152,7 @@ fn next_task(t: &mut [u32], k: usize, task: u32, q: u32) -> Reply
 
 // Trigger q, a kernel task: clear q's not-ready and waiting, count - 1. Where waiting had been set or the new count is 0, the task is
 // then to wake q; otherwise it is over.
-pub fn trigger_choice(t: &mut [u32], cores: usize, processes: usize, k: usize, q: u32) -> Reply
+pub fn trigger_step(t: &mut [u32], cores: usize, processes: usize, k: usize, q: u32) -> Reply
     requires { ⌜ Card (now t) cores processes k ⌝ ∗ ⌜ core-of (view (now t)) k .work ≡ free (trigger q) ⌝ }
     ensures { λ r. ⌜ Does (trigger-step k q) (now (t .entry)) r (now (t .exit)) ⌝ }
 {

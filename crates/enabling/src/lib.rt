@@ -7,7 +7,7 @@ ghost use Rattle.guards.specs.Read.{guards-at, index-at};
 use answers::Reply;
 
 // Enabling, look: word 0: next raise; otherwise next ready.
-pub fn enable_look(t: &mut [u32], cores: usize, processes: usize, k: usize, p: u32) -> Reply
+pub fn enable_look_step(t: &mut [u32], cores: usize, processes: usize, k: usize, p: u32) -> Reply
     requires { ⌜ At (now t) cores processes k p (enable-look (guards-at (now t) cores p) (index-at (now t) cores p)) ⌝ }
     ensures { λ r. ⌜ Does (enable-look-step p (guards-at (now (t .entry)) cores p) (index-at (now (t .entry)) cores p))
         (now (t .entry)) r (now (t .exit)) ⌝ }
@@ -20,7 +20,7 @@ pub fn enable_look(t: &mut [u32], cores: usize, processes: usize, k: usize, p: u
 }
 
 // Raise: count + 1.
-pub fn raise_count(t: &mut [u32], cores: usize, processes: usize, k: usize, p: u32) -> Reply
+pub fn raise_step(t: &mut [u32], cores: usize, processes: usize, k: usize, p: u32) -> Reply
     requires { ⌜ At (now t) cores processes k p (raise (guards-at (now t) cores p) (index-at (now t) cores p)) ⌝ }
     ensures { λ r. ⌜ Does (raise-step p (guards-at (now (t .entry)) cores p) (index-at (now (t .entry)) cores p))
         (now (t .entry)) r (now (t .exit)) ⌝ }
@@ -34,7 +34,7 @@ pub fn raise_count(t: &mut [u32], cores: usize, processes: usize, k: usize, p: u
 }
 
 // Place: if the word is still 0 it becomes one's name with the low bit set; otherwise next ready.
-pub fn place_name(t: &mut [u32], cores: usize, processes: usize, k: usize, p: u32) -> Reply
+pub fn place_name_step(t: &mut [u32], cores: usize, processes: usize, k: usize, p: u32) -> Reply
     requires { ⌜ At (now t) cores processes k p (place-name (guards-at (now t) cores p) (index-at (now t) cores p)) ⌝ }
     ensures { λ r. ⌜ Does (place-name-step p (guards-at (now (t .entry)) cores p) (index-at (now (t .entry)) cores p))
         (now (t .entry)) r (now (t .exit)) ⌝ }
@@ -48,7 +48,13 @@ pub fn place_name(t: &mut [u32], cores: usize, processes: usize, k: usize, p: u3
 }
 
 // Ready, from look: clear not-ready.
-pub fn ready_from_look(t: &mut [u32], cores: usize, processes: usize, k: usize, p: u32) -> Reply
+pub fn ready_from_look_step(
+    t: &mut [u32],
+    cores: usize,
+    processes: usize,
+    k: usize,
+    p: u32,
+) -> Reply
     requires { ⌜ At (now t) cores processes k p (ready-from-look (guards-at (now t) cores p) (index-at (now t) cores p)) ⌝ }
     ensures { λ r. ⌜ Does (ready-from-look-step p (guards-at (now (t .entry)) cores p) (index-at (now (t .entry)) cores p))
         (now (t .entry)) r (now (t .exit)) ⌝ }
@@ -58,7 +64,13 @@ pub fn ready_from_look(t: &mut [u32], cores: usize, processes: usize, k: usize, 
 }
 
 // Ready, from place: clear not-ready, and count - 1.
-pub fn ready_from_place(t: &mut [u32], cores: usize, processes: usize, k: usize, p: u32) -> Reply
+pub fn ready_from_place_step(
+    t: &mut [u32],
+    cores: usize,
+    processes: usize,
+    k: usize,
+    p: u32,
+) -> Reply
     requires { ⌜ At (now t) cores processes k p (ready-from-place (guards-at (now t) cores p) (index-at (now t) cores p)) ⌝ }
     ensures { λ r. ⌜ Does (ready-from-place-step p (guards-at (now (t .entry)) cores p) (index-at (now (t .entry)) cores p))
         (now (t .entry)) r (now (t .exit)) ⌝ }
