@@ -1,4 +1,4 @@
--- Document 01, "Touched items": the list of a call, read off the state before it. The answer slice plays no part in it.
+-- Document 01, "Touched items": the list of a call, read off the state before it. What is lent for the answer plays no part in it.
 use Prim.Native.Nat.{ℕ, zero, suc}
 use mathlib.Core.List.{List, [], _∷_, _++_, map, flatMap}
 use lib.Dec.{ltb}
