@@ -7,7 +7,7 @@ use lib.Dec.{ltb}
 use lib.ListN.{length}
 use Rattle.rules.specs.Lists.{if_then_else_}
 use Rattle.rules.specs.Numbers.{Answer, BUILT, Refusal, ANSWER, DAMAGED, CORE, yes-with, no-because, number-of, Lent, well-lent, written}
-use Rattle.rules.specs.State.{State, Wiring, wiring}
+use Rattle.rules.specs.State.{State, Wiring, users}
 use Rattle.rules.specs.Rule.{Rule, Ran, accepted, refused, run}
 use Rattle.rules.specs.Requests.{Request, send, receive, choose, yield, end, request}
 use Rattle.rules.specs.Scheduler.{step}
@@ -47,7 +47,7 @@ call t answer k ask =
     let s = view t in
     if well-lent answer
     then (if sound t
-    then (if ltb k (length (s .cores)) then outcome-of t answer (run (rule-of (wiring s) ask k) s) else refusal t answer CORE)
+    then (if ltb k (length (s .cores)) then outcome-of t answer (run (rule-of (users s) ask k) s) else refusal t answer CORE)
     else refusal t answer DAMAGED)
     else refusal t answer ANSWER
 

@@ -8,7 +8,7 @@ use lib.Dec.{T, eqb, ltb, ltb→lt}
 use lib.ListN.{length}
 use Rattle.rules.specs.Lists.{if_then_else_, within}
 use Rattle.rules.specs.Numbers.{Answer, Refusal, SIZE, PAIRS, ROOM, NAME, SELF, ANSWER, DAMAGED, CORE, Lent, well-lent}
-use Rattle.rules.specs.State.{running, runs, State, wiring}
+use Rattle.rules.specs.State.{running, runs, State, users}
 use Rattle.rules.specs.Items.{core-of, process-of}
 use Rattle.rules.specs.Rule.{Ran, accepted, refused, run}
 use Rattle.rules.specs.SetUp.{ends-of, proper-pairs, set-up-refusal, set-up-state}
@@ -35,7 +35,7 @@ module _ (s : State) (k : ℕ) (good : T (valid s)) (on : k < length (s .cores))
   has-running p e = let h = runs-there k (reflected s good) on p e in rw (is-running h) at (running-good h .fitting)
 
   -- whatever is asked
-  ask-says : (ask : Ask) → Says (answers-of ask) (said (run (rule-of (wiring s) ask k) s)) (ask-cases s (core-of s k .work) ask)
+  ask-says : (ask : Ask) → Says (answers-of ask) (said (run (rule-of (users s) ask k) s)) (ask-cases s (core-of s k .work) ask)
   ask-says the-step = work-says s k (core-of s k) (core-of s k .work) has-running
   ask-says (a-request r) = requester-says s k r (core-of s k .work)
 
@@ -51,7 +51,7 @@ module _ (t : List ℕ) (answer : Lent) (k : ℕ) (ask : Ask) where
       s = view t
 
       own : Result
-      own = outcome-of t answer (run (rule-of (wiring s) ask k) s)
+      own = outcome-of t answer (run (rule-of (users s) ask k) s)
 
       later : List Case
       later = ask-cases s (core-of s k .work) ask
