@@ -8,7 +8,7 @@ use lib.ListN.{length}
 use Rattle.rules.specs.Lists.{within, times, first}
 use Rattle.rules.specs.State.{State}
 use Rattle.rules.specs.Items.{core-of}
-use Rattle.rules.specs.Layout.{core-at}
+use Rattle.rules.specs.Layout.{core-at, core-first, core-last, core-size, core-first-head, core-last-head}
 use Rattle.rules.specs.Packing.{heads, word-at, pack}
 use Rattle.packing.specs.Queues.{Queued}
 use Rattle.rules.proofs.Packing.Blocks.{pack-holds}
@@ -19,14 +19,13 @@ use Rattle.packing.proofs.Links.{Stands}
 use Rattle.packing.proofs.Standing.{active-among, stands-once, first-stands, second-stands, last-stands, first-head-stands, last-head-stands}
 use Rattle.packing.proofs.Take.{next-read}
 use Rattle.table.specs.Has.{HasCore, HasProcess}
-use Rattle.table.proofs.Has.{has-core, has-process}
 use Rattle.queues.specs.Fits.{CanPush, CanJoin, CanTake, CanStore, CanSplit, CanLoad}
 
 pub packed-core : (s : State) (k : ℕ) → k < length (s .cores) → HasCore (pack s) k
-packed-core s k inside = has-core (pack s) k (omega (arith, pack-holds s .size))
+packed-core s k inside = omega (arith, pack-holds s .size)
 
 pub packed-process : (s : State) (p : ℕ) → 1 ≤ p → p ≤ length (s .processes) → HasProcess (pack s) (length (s .cores)) p
-packed-process s p low high = has-process (pack s) (length (s .cores)) p low (omega (arith, pack-holds s .size))
+packed-process s p low high = omega (arith, pack-holds s .size)
 
 module _ (s : State) (k : ℕ) (inside : k < length (s .cores)) (queued : Queued s) where
   -- a process that stands in the core's queues is one of the table
@@ -51,18 +50,21 @@ module _ (s : State) (k : ℕ) (inside : k < length (s .cores)) (queued : Queued
           omega (arith, stands-once s k inside queued p (range p here) (omega arith) .at-most)
 
   -- the first of the active queue, and its size, as they are read
-  first-read : (p : ℕ) (rest : List ℕ) → core-of s k .active ≡ p ∷ rest → p ≡ word-at (pack s) (core-at k 3)
-  first-read p rest e = sym (read-core s k 3 inside (lit< tt) ∙ ap first e)
+  first-read : (p : ℕ) (rest : List ℕ) → core-of s k .active ≡ p ∷ rest → p ≡ word-at (pack s) (core-at k core-first)
+  first-read p rest e = sym (read-core s k core-first inside (lit< tt) ∙ ap first e)
 
-  size-read : (p : ℕ) (rest : List ℕ) → core-of s k .active ≡ p ∷ rest → 1 ≤ word-at (pack s) (core-at k 5)
-  size-read p rest e = rw (read-core s k 5 inside (lit< tt)) (omega (arith, ap length e))
+  size-read : (p : ℕ) (rest : List ℕ) → core-of s k .active ≡ p ∷ rest → 1 ≤ word-at (pack s) (core-at k core-size)
+  size-read p rest e = rw (read-core s k core-size inside (lit< tt)) (omega (arith, ap length e))
 
   pub can-push : length (s .processes) ≤ 256 → CanPush (pack s) (length (s .cores)) k
   can-push few =
       record {
-        core = packed-core s k inside;
-        last = rw (read-core s k 4 inside (lit< tt)) (λ low. standing _ (last-stands s k inside queued low));
-        size = rw (read-core s k 5 inside (lit< tt)) (omega (arith, active-size));
+        links =
+            record {
+              core = packed-core s k inside;
+              last = rw (read-core s k core-last inside (lit< tt)) (λ low. standing _ (last-stands s k inside queued low));
+            };
+        size = rw (read-core s k core-size inside (lit< tt)) (omega (arith, active-size));
       }
 
   pub can-join : length (s .processes) ≤ 256 → (q : ℕ) → 1 ≤ q → q ≤ length (s .processes) → CanJoin (pack s) (length (s .cores)) k q
@@ -80,10 +82,13 @@ module _ (s : State) (k : ℕ) (inside : k < length (s .cores)) (queued : Queued
   pub can-store : (p : ℕ) (rest : List ℕ) → core-of s k .active ≡ p ∷ rest → CanStore (pack s) (length (s .cores)) k p
   can-store p rest e =
       record {
-        core = packed-core s k inside;
+        links =
+            record {
+              core = packed-core s k inside;
+              last = rw (read-core s k core-last-head inside (lit< tt)) (λ low. standing _ (last-head-stands s k inside queued low));
+            };
         first = first-read p rest e;
         process = standing p (first-stands s k inside queued p rest e);
-        last-head = rw (read-core s k 9 inside (lit< tt)) (λ low. standing _ (last-head-stands s k inside queued low));
       }
 
   pub can-split : (p q : ℕ) (rest : List ℕ) → core-of s k .active ≡ p ∷ (q ∷ rest) → CanSplit (pack s) (length (s .cores)) k p
@@ -100,6 +105,6 @@ module _ (s : State) (k : ℕ) (inside : k < length (s .cores)) (queued : Queued
   can-load (p ∷ more) rest e =
       record {
         core = packed-core s k inside;
-        head = sym (read-core s k 8 inside (lit< tt) ∙ ap (λ r. first (heads r)) e);
+        head = sym (read-core s k core-first-head inside (lit< tt) ∙ ap (λ r. first (heads r)) e);
         process = standing p (first-head-stands s k inside queued p more rest e);
       }

@@ -4,7 +4,7 @@ use mathlib.Core.List.{List, [], _∷_, _++_}
 use lib.ListN.{length, set, length-set}
 use Rattle.rules.specs.State.{queued, State}
 use Rattle.rules.specs.Items.{put, core-of, core, place}
-use Rattle.rules.specs.Layout.{process-at}
+use Rattle.rules.specs.Layout.{process-at, process-place, place-queued}
 use Rattle.rules.specs.Steps.{with-active}
 use Rattle.packing.specs.Queues.{push-table, Queued}
 use Rattle.packing.proofs.States.{length-set-nth}
@@ -22,10 +22,10 @@ module _ {t : List ℕ} {cores processes : ℕ} {s : State} (packs : Packs t cor
   pub may-join : length (s .processes) ≤ 256 → CanJoin t cores k q
   may-join few = on-pack packs (λ u n. CanJoin u n k q) (can-join s k inside order few q (is .0) (is .1))
 
-  pub joined : Packs (push-table (set t (process-at cores q 0) 2) cores k q) cores processes (with-joined k q s)
+  pub joined : Packs (push-table (set t (process-at cores q process-place) place-queued) cores k q) cores processes (with-joined k q s)
   joined =
       still packs (length-set (s .cores) k _) (length-set-nth (s .processes) q _)
-      (as-packed packs (λ u n. push-table (set u (process-at n q 0) 2) n k q) (join-law s k inside order q (is .0) (is .1)))
+      (as-packed packs (λ u n. push-table (set u (process-at n q process-place) place-queued) n k q) (join-law s k inside order q (is .0) (is .1)))
 
   -- core k is still one of the state's
   pub joined-inside : k < length (with-joined k q s .cores)

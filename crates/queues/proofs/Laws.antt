@@ -7,7 +7,7 @@ use lib.ListN.{length, set, length-set}
 use Rattle.rules.specs.Lists.{bit}
 use Rattle.rules.specs.State.{running, queued, no-task, runs, free, Core, State}
 use Rattle.rules.specs.Items.{core-of, put, core, place}
-use Rattle.rules.specs.Layout.{core-at, process-at}
+use Rattle.rules.specs.Layout.{core-at, process-at, core-runs, core-dispatch, core-mark, process-place, place-running, place-queued}
 use Rattle.rules.specs.Packing.{pack}
 use Rattle.rules.specs.Steps.{with-active}
 use Rattle.rules.specs.Scheduler.{stored}
@@ -37,7 +37,7 @@ loads n m batch rest c = record { work = c .work; active = batch; dispatch = n; 
 module _ (s : State) (k : ℕ) (inside : k < length (s .cores)) (order : Queued s) where
   -- process q is queued and goes to the end of the active queue: `joins` of the rules
   pub join-law : (q : ℕ) → 1 ≤ q → q ≤ length (s .processes)
-      → push-table (set (pack s) (process-at (length (s .cores)) q 0) 2) (length (s .cores)) k q
+      → push-table (set (pack s) (process-at (length (s .cores)) q process-place) place-queued) (length (s .cores)) k q
       ≡ pack (put core k (with-active (core-of s k .active ++ (q ∷ [])) (core-of s k)) (put place q queued s))
   join-law q low high =
       ap (λ t. push-table t (length (s .cores)) k q) (put-place s q low high queued)
@@ -45,20 +45,20 @@ module _ (s : State) (k : ℕ) (inside : k < length (s .cores)) (order : Queued 
 
   -- the first process p, taken off the active queue of a core that runs nothing, runs there, and the dispatch count is n: `take-step`
   pub take-step-law : (p n : ℕ) (rest : List ℕ) → core-of s k .active ≡ p ∷ rest → core-of s k .work ≡ free no-task
-      → set (set (set (take-table (pack s) (length (s .cores)) k) (core-at k 0) p) (core-at k 6) n) (process-at (length (s .cores)) p 0) 1
+      → set (set (set (take-table (pack s) (length (s .cores)) k) (core-at k core-runs) p) (core-at k core-dispatch) n) (process-at (length (s .cores)) p process-place) place-running
       ≡ pack (put place p running (put core k (takes p n rest (core-of s k)) s))
   take-step-law p n rest e idle =
-      ap (λ t. set (set (set t (core-at k 0) p) (core-at k 6) n) (process-at (length (s .cores)) p 0) 1) (take-law s k p rest inside order e)
-      ∙ ap (λ t. set t (process-at (length (s .cores)) p 0) 1)
+      ap (λ t. set (set (set t (core-at k core-runs) p) (core-at k core-dispatch) n) (process-at (length (s .cores)) p process-place) place-running) (take-law s k p rest inside order e)
+      ∙ ap (λ t. set t (process-at (length (s .cores)) p process-place) place-running)
       (put-core-again s k (with-queues rest (core-of s k .run-queue) (core-of s k)) (takes p n rest (core-of s k)) (λ f. f)
-      ((0, p) ∷ (6, n) ∷ []) inside tt refl refl turned)
+      ((core-runs, p) ∷ (core-dispatch, n) ∷ []) inside tt refl refl turned)
       ∙ rw (length-set (s .cores) k (takes p n rest (core-of s k)))
       at (put-place (put core k (takes p n rest (core-of s k)) s) p (stands .low) (stands .high) running)
     where
       stands : Stands s k p
       stands = first-stands s k inside order p rest e
 
-      turned : writes ((0, p) ∷ (6, n) ∷ []) (λ f. f) (core-list (with-queues rest (core-of s k .run-queue) (core-of s k)))
+      turned : writes ((core-runs, p) ∷ (core-dispatch, n) ∷ []) (λ f. f) (core-list (with-queues rest (core-of s k .run-queue) (core-of s k)))
           ≡ core-list (takes p n rest (core-of s k))
       turned = rw idle
 
@@ -86,8 +86,8 @@ module _ (s : State) (k : ℕ) (inside : k < length (s .cores)) (order : Queued 
 
   -- the first batch becomes the active queue, which was empty, with a dispatch count n and a mark m: `load-step`
   pub load-step-law : (n : ℕ) (m : Bool) (batch : List ℕ) (rest : List (List ℕ)) → core-of s k .active ≡ [] → core-of s k .run-queue ≡ batch ∷ rest
-      → set (set (load-table (pack s) (length (s .cores)) k) (core-at k 6) n) (core-at k 7) (bit m)
+      → set (set (load-table (pack s) (length (s .cores)) k) (core-at k core-dispatch) n) (core-at k core-mark) (bit m)
       ≡ pack (put core k (loads n m batch rest (core-of s k)) s)
   load-step-law n m batch rest e e′ =
-      ap (λ t. set (set t (core-at k 6) n) (core-at k 7) (bit m)) (load-law s k batch rest inside order e e′)
-      ∙ put-core-again s k (with-queues batch rest (core-of s k)) _ (λ f. f) ((6, n) ∷ (7, bit m) ∷ []) inside tt refl refl refl
+      ap (λ t. set (set t (core-at k core-dispatch) n) (core-at k core-mark) (bit m)) (load-law s k batch rest inside order e e′)
+      ∙ put-core-again s k (with-queues batch rest (core-of s k)) _ (λ f. f) ((core-dispatch, n) ∷ (core-mark, bit m) ∷ []) inside tt refl refl refl

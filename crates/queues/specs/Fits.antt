@@ -2,21 +2,19 @@
 use Prim.Native.Nat.{ℕ, _≤_, _<_}
 use mathlib.Core.Path.{_≡_}
 use mathlib.Core.List.{List}
-use lib.ListN.{length}
-use Rattle.rules.specs.Layout.{core-at, process-at}
+use Rattle.rules.specs.Layout.{core-at, process-at, core-first, core-last, core-size, core-first-head, core-last-head, process-next}
 use Rattle.rules.specs.Packing.{word-at}
 use Rattle.table.specs.Has.{HasCore, HasProcess}
 
--- to link behind the last one b, if there is one, by its word g, otherwise by the word f of core k
-pub record CanLink (t : List ℕ) (cores k f g b : ℕ) : Type 0 where
-  pub first : core-at k f < length t
-  pub last : 1 ≤ b → process-at cores b g < length t
+-- to link behind the last one b, if there is one, otherwise to be the first of core k
+pub record CanLink (t : List ℕ) (cores k b : ℕ) : Type 0 where
+  pub core : HasCore t k
+  pub last : 1 ≤ b → HasProcess t cores b
 
 -- to put a process at the end of core k's active queue
 pub record CanPush (t : List ℕ) (cores k : ℕ) : Type 0 where
-  pub core : HasCore t k
-  pub last : 1 ≤ word-at t (core-at k 4) → HasProcess t cores (word-at t (core-at k 4))
-  pub size : word-at t (core-at k 5) < 4294967295
+  pub links : CanLink t cores k (word-at t (core-at k core-last))
+  pub size : word-at t (core-at k core-size) < 4294967295
 
 -- to make process q queued and put it there
 pub record CanJoin (t : List ℕ) (cores k q : ℕ) : Type 0 where
@@ -27,30 +25,24 @@ pub record CanJoin (t : List ℕ) (cores k q : ℕ) : Type 0 where
 -- to take the first process p off the active queue
 pub record CanTake (t : List ℕ) (cores k p : ℕ) : Type 0 where
   pub core : HasCore t k
-  pub first : p ≡ word-at t (core-at k 3)
+  pub first : p ≡ word-at t (core-at k core-first)
   pub process : HasProcess t cores p
-  pub size : 1 ≤ word-at t (core-at k 5)
-
--- to put a batch behind the last one, whose head is b
-pub record CanStoreHeads (t : List ℕ) (cores k b : ℕ) : Type 0 where
-  pub core : HasCore t k
-  pub last : 1 ≤ b → HasProcess t cores b
+  pub size : 1 ≤ word-at t (core-at k core-size)
 
 -- to make the active queue, with the first process p, a batch
 pub record CanStore (t : List ℕ) (cores k p : ℕ) : Type 0 where
-  pub core : HasCore t k
-  pub first : p ≡ word-at t (core-at k 3)
+  pub links : CanLink t cores k (word-at t (core-at k core-last-head))
+  pub first : p ≡ word-at t (core-at k core-first)
   pub process : HasProcess t cores p
-  pub last-head : 1 ≤ word-at t (core-at k 9) → HasProcess t cores (word-at t (core-at k 9))
 
 -- to make it two batches
 pub record CanSplit (t : List ℕ) (cores k p : ℕ) : Type 0 where
   pub whole : CanStore t cores k p
-  pub second : HasProcess t cores (word-at t (process-at cores p 20))
-  pub size : 1 ≤ word-at t (core-at k 5)
+  pub second : HasProcess t cores (word-at t (process-at cores p process-next))
+  pub size : 1 ≤ word-at t (core-at k core-size)
 
 -- to make the first batch, with the head p, the active queue
 pub record CanLoad (t : List ℕ) (cores k p : ℕ) : Type 0 where
   pub core : HasCore t k
-  pub head : p ≡ word-at t (core-at k 8)
+  pub head : p ≡ word-at t (core-at k core-first-head)
   pub process : HasProcess t cores p

@@ -1,17 +1,29 @@
 // The queues of core k as chains in the table (docs/PACKING.md, "Queues"): a few words are written, whatever a queue's length.
 ghost use mathlib.Core.Path.{_≡_};
+ghost use Prim.Native.Nat.{_<_};
 ghost use lib.ListN.{set};
 ghost use lib.Dec.{eqb};
 ghost use Rattle.rules.specs.Lists.{if_then_else_};
-ghost use Rattle.rules.specs.Layout.{process-at};
+ghost use Rattle.rules.specs.Layout.{core-stride, process-stride, process-at, process-place, place-queued};
 ghost use Rattle.packing.specs.Queues.{link-end, push-table, take-table, store-heads, store-table, split-table, load-table};
 ghost use Rattle.table.specs.Has.{HasCore, HasProcess};
 ghost use Rattle.queues.specs.Parts.{active-table, batch-table, alone-table, no-batch-table};
-ghost use Rattle.queues.specs.Fits.{CanLink, CanPush, CanJoin, CanTake, CanStoreHeads, CanStore, CanSplit, CanLoad};
+ghost use Rattle.queues.specs.Fits.{CanLink, CanPush, CanJoin, CanTake, CanStore, CanSplit, CanLoad};
+use layout::CORE_FIRST;
+use layout::CORE_FIRST_HEAD;
+use layout::CORE_LAST;
+use layout::CORE_LAST_HEAD;
+use layout::CORE_SIZE;
+use layout::PLACE_QUEUED;
+use layout::PROCESS_LAST;
+use layout::PROCESS_NEXT;
+use layout::PROCESS_NEXT_HEAD;
+use layout::PROCESS_PLACE;
+use layout::PROCESS_SIZE;
 
 // Process p is linked behind the last one b by the word g of b; where there is none it is the first, the word f of core k.
 fn link_end(t: &mut [u32], cores: usize, k: usize, f: usize, g: usize, b: u32, p: u32)
-    requires { ⌜ CanLink (now t) cores k f g b ⌝ }
+    requires { ⌜ CanLink (now t) cores k b ⌝ ∗ ⌜ f < core-stride ⌝ ∗ ⌜ g < process-stride ⌝ }
     ensures { λ r. ⌜ now (t .exit) ≡ link-end f g b p (now (t .entry)) cores k ⌝ }
 {
     if b == 0 {
@@ -26,19 +38,19 @@ pub fn push(t: &mut [u32], cores: usize, k: usize, q: u32)
     requires { ⌜ CanPush (now t) cores k ⌝ }
     ensures { λ r. ⌜ now (t .exit) ≡ push-table (now (t .entry)) cores k q ⌝ }
 {
-    let old_last = table::core_word(t, k, 4);
-    let size = table::core_word(t, k, 5);
-    link_end(t, cores, k, 3, 20, old_last, q);
-    t[8 + 16 * k + 4] = q;
-    t[8 + 16 * k + 5] = size + 1;
+    let old_last = table::core_word(t, k, CORE_LAST);
+    let size = table::core_word(t, k, CORE_SIZE);
+    link_end(t, cores, k, CORE_FIRST, PROCESS_NEXT, old_last, q);
+    table::set_core_word(t, k, CORE_LAST, q);
+    table::set_core_word(t, k, CORE_SIZE, size + 1);
 }
 
 // Process q is queued, at the end of the active queue.
 pub fn join(t: &mut [u32], cores: usize, k: usize, q: u32)
     requires { ⌜ CanJoin (now t) cores k q ⌝ }
-    ensures { λ r. ⌜ now (t .exit) ≡ push-table (set (now (t .entry)) (process-at cores q 0) 2) cores k q ⌝ }
+    ensures { λ r. ⌜ now (t .exit) ≡ push-table (set (now (t .entry)) (process-at cores q process-place) place-queued) cores k q ⌝ }
 {
-    table::set_process_word(t, cores, q, 0, 2);
+    table::set_process_word(t, cores, q, PROCESS_PLACE, PLACE_QUEUED);
     push(t, cores, k, q);
 }
 
@@ -54,9 +66,9 @@ fn set_active(t: &mut [u32], k: usize, first: u32, last: u32, size: u32)
     requires { ⌜ HasCore (now t) k ⌝ }
     ensures { λ r. ⌜ now (t .exit) ≡ active-table (now (t .entry)) k first last size ⌝ }
 {
-    t[8 + 16 * k + 3] = first;
-    t[8 + 16 * k + 4] = last;
-    t[8 + 16 * k + 5] = size;
+    table::set_core_word(t, k, CORE_FIRST, first);
+    table::set_core_word(t, k, CORE_LAST, last);
+    table::set_core_word(t, k, CORE_SIZE, size);
 }
 
 // The first process p leaves the active queue.
@@ -64,20 +76,20 @@ pub fn take_first(t: &mut [u32], cores: usize, k: usize, p: u32)
     requires { ⌜ CanTake (now t) cores k p ⌝ }
     ensures { λ r. ⌜ now (t .exit) ≡ take-table (now (t .entry)) cores k ⌝ }
 {
-    let next = table::process_word(t, cores, p, 20);
-    let last = last_after(next, table::core_word(t, k, 4));
-    let size = table::core_word(t, k, 5);
+    let next = table::process_word(t, cores, p, PROCESS_NEXT);
+    let last = last_after(next, table::core_word(t, k, CORE_LAST));
+    let size = table::core_word(t, k, CORE_SIZE);
     set_active(t, k, next, last, size - 1);
-    table::set_process_word(t, cores, p, 20, 0);
+    table::set_process_word(t, cores, p, PROCESS_NEXT, 0);
 }
 
 // A batch with the head p stands behind the last one, whose head is b; the last head is h then, and the active queue is empty.
 fn store_heads(t: &mut [u32], cores: usize, k: usize, p: u32, h: u32, b: u32)
-    requires { ⌜ CanStoreHeads (now t) cores k b ⌝ }
+    requires { ⌜ CanLink (now t) cores k b ⌝ }
     ensures { λ r. ⌜ now (t .exit) ≡ store-heads p h b (now (t .entry)) cores k ⌝ }
 {
-    link_end(t, cores, k, 8, 23, b, p);
-    table::set_core_word(t, k, 9, h);
+    link_end(t, cores, k, CORE_FIRST_HEAD, PROCESS_NEXT_HEAD, b, p);
+    table::set_core_word(t, k, CORE_LAST_HEAD, h);
     set_active(t, k, 0, 0, 0);
 }
 
@@ -86,9 +98,8 @@ fn keep_batch(t: &mut [u32], cores: usize, p: u32, last: u32, size: u32)
     requires { ⌜ HasProcess (now t) cores p ⌝ }
     ensures { λ r. ⌜ now (t .exit) ≡ batch-table (now (t .entry)) cores p last size ⌝ }
 {
-    let i = p as usize;
-    t[8 + 16 * cores + 24 * (i - 1) + 21] = last;
-    t[8 + 16 * cores + 24 * (i - 1) + 22] = size;
+    table::set_process_word(t, cores, p, PROCESS_LAST, last);
+    table::set_process_word(t, cores, p, PROCESS_SIZE, size);
 }
 
 // The active queue, with the first process p, becomes the last batch.
@@ -96,9 +107,9 @@ pub fn store_whole(t: &mut [u32], cores: usize, k: usize, p: u32)
     requires { ⌜ CanStore (now t) cores k p ⌝ }
     ensures { λ r. ⌜ now (t .exit) ≡ store-table (now (t .entry)) cores k ⌝ }
 {
-    let last = table::core_word(t, k, 4);
-    let size = table::core_word(t, k, 5);
-    let b = table::core_word(t, k, 9);
+    let last = table::core_word(t, k, CORE_LAST);
+    let size = table::core_word(t, k, CORE_SIZE);
+    let b = table::core_word(t, k, CORE_LAST_HEAD);
     keep_batch(t, cores, p, last, size);
     store_heads(t, cores, k, p, p, b);
 }
@@ -108,11 +119,10 @@ fn set_alone(t: &mut [u32], cores: usize, p: u32, q: u32)
     requires { ⌜ HasProcess (now t) cores p ⌝ }
     ensures { λ r. ⌜ now (t .exit) ≡ alone-table (now (t .entry)) cores p q ⌝ }
 {
-    let i = p as usize;
-    t[8 + 16 * cores + 24 * (i - 1) + 20] = 0;
-    t[8 + 16 * cores + 24 * (i - 1) + 21] = p;
-    t[8 + 16 * cores + 24 * (i - 1) + 22] = 1;
-    t[8 + 16 * cores + 24 * (i - 1) + 23] = q;
+    table::set_process_word(t, cores, p, PROCESS_NEXT, 0);
+    table::set_process_word(t, cores, p, PROCESS_LAST, p);
+    table::set_process_word(t, cores, p, PROCESS_SIZE, 1);
+    table::set_process_word(t, cores, p, PROCESS_NEXT_HEAD, q);
 }
 
 // The active queue becomes the two last batches: its first process p alone, then the others.
@@ -120,10 +130,10 @@ pub fn split(t: &mut [u32], cores: usize, k: usize, p: u32)
     requires { ⌜ CanSplit (now t) cores k p ⌝ }
     ensures { λ r. ⌜ now (t .exit) ≡ split-table (now (t .entry)) cores k ⌝ }
 {
-    let q = table::process_word(t, cores, p, 20);
-    let last = table::core_word(t, k, 4);
-    let size = table::core_word(t, k, 5);
-    let b = table::core_word(t, k, 9);
+    let q = table::process_word(t, cores, p, PROCESS_NEXT);
+    let last = table::core_word(t, k, CORE_LAST);
+    let size = table::core_word(t, k, CORE_SIZE);
+    let b = table::core_word(t, k, CORE_LAST_HEAD);
     set_alone(t, cores, p, q);
     keep_batch(t, cores, q, last, size - 1);
     store_heads(t, cores, k, p, q, b);
@@ -134,10 +144,9 @@ fn keep_nothing(t: &mut [u32], cores: usize, p: u32)
     requires { ⌜ HasProcess (now t) cores p ⌝ }
     ensures { λ r. ⌜ now (t .exit) ≡ no-batch-table (now (t .entry)) cores p ⌝ }
 {
-    let i = p as usize;
-    t[8 + 16 * cores + 24 * (i - 1) + 21] = 0;
-    t[8 + 16 * cores + 24 * (i - 1) + 22] = 0;
-    t[8 + 16 * cores + 24 * (i - 1) + 23] = 0;
+    table::set_process_word(t, cores, p, PROCESS_LAST, 0);
+    table::set_process_word(t, cores, p, PROCESS_SIZE, 0);
+    table::set_process_word(t, cores, p, PROCESS_NEXT_HEAD, 0);
 }
 
 // The first batch, with the head p, becomes the active queue.
@@ -145,12 +154,12 @@ pub fn load_first(t: &mut [u32], cores: usize, k: usize, p: u32)
     requires { ⌜ CanLoad (now t) cores k p ⌝ }
     ensures { λ r. ⌜ now (t .exit) ≡ load-table (now (t .entry)) cores k ⌝ }
 {
-    let last = table::process_word(t, cores, p, 21);
-    let size = table::process_word(t, cores, p, 22);
-    let next = table::process_word(t, cores, p, 23);
-    let last_head = last_after(next, table::core_word(t, k, 9));
+    let last = table::process_word(t, cores, p, PROCESS_LAST);
+    let size = table::process_word(t, cores, p, PROCESS_SIZE);
+    let next = table::process_word(t, cores, p, PROCESS_NEXT_HEAD);
+    let last_head = last_after(next, table::core_word(t, k, CORE_LAST_HEAD));
     set_active(t, k, p, last, size);
-    table::set_core_word(t, k, 8, next);
-    table::set_core_word(t, k, 9, last_head);
+    table::set_core_word(t, k, CORE_FIRST_HEAD, next);
+    table::set_core_word(t, k, CORE_LAST_HEAD, last_head);
     keep_nothing(t, cores, p);
 }

@@ -21,7 +21,7 @@ returns c =
     rw none (c .before .before .set-core-word .ensures)
 
 set-process-word-requires : tie.Need-set-process-word-requires
-set-process-word-requires c κs = (omega arith, c .before .before .before .pre .last (omega arith))
+set-process-word-requires c κs = let is = c .before .before .before .pre .0 .last (omega arith) in (is .from-one, omega (arith, is .reaches))
 
 same-length-2 : tie.Need-same-length-2
 same-length-2 c = search needs

@@ -1,6 +1,4 @@
--- What the head kept was read before the core has it and the head has lost it.
 use borrow.Author.Needs.{needs}
-use Rattle.queues.proofs.Within.{load-parts}
 use Rattle.queues.proofs.load_first.Statement.{statement}
 use Rattle.queues.proofs.load_first.Tie as tie
 
@@ -35,20 +33,7 @@ same-length : tie.Need-same-length
 same-length c = search needs
 
 returns : tie.Need-returns
-returns c =
-    let unkept = c .before .before in
-    let heads = unkept .before .before .before .before in
-    let first-head = heads .before .before .before .before in
-    let active = first-head .before .before .before .before in
-    let last-head = active .before .before in
-    let old = last-head .before in
-    let next = old .before .before in
-    let size = next .before .before in
-    let last = size .before .before in
-    let start = last .before .before .before in
-    load-parts (start .args .t .now) (start .args .cores) (start .args .k) (start .pre .head) (last .process-word .ensures)
-    (size .process-word2 .ensures) (next .process-word3 .ensures) (old .core-word .ensures) (last-head .last-after .ensures)
-    (active .set-active .ensures) (first-head .set-core-word .ensures) (heads .set-core-word2 .ensures) (unkept .keep-nothing .ensures)
+returns c = cc
 
 pub load-first-spec : {M : Type 1} → statement M
 load-first-spec =

@@ -1,7 +1,6 @@
--- The two heads keep their batches, then the heads are stored; all that is written was read before.
 use borrow.Author.Needs.{needs}
 use native.Mathlib.Omega.{arith}
-use Rattle.queues.proofs.Within.{store-heads-fit, split-parts}
+use Rattle.queues.proofs.Within.{links-kept, split-parts}
 use Rattle.queues.proofs.split.Statement.{statement}
 use Rattle.queues.proofs.split.Tie as tie
 
@@ -30,7 +29,7 @@ store-heads-requires : tie.Need-store-heads-requires
 store-heads-requires c κs =
     let head = c .before .before .before .before .before .before .before .before .before in
     let start = head .before .before .before .before .before .before .before .before .before in
-    store-heads-fit _ _ _ _ _ _ (start .pre .whole) (head .core-word3 .ensures) (omega arith)
+    rw (head .core-word3 .ensures) (links-kept _ _ _ _ _ (omega arith) (start .pre .whole .links))
 
 same-length : tie.Need-same-length
 same-length c = search needs

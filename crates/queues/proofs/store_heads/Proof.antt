@@ -1,11 +1,9 @@
--- The words of the core are written after the batch is linked.
 use borrow.Author.Needs.{needs}
-use Rattle.queues.proofs.Within.{store-link}
 use Rattle.queues.proofs.store_heads.Statement.{statement}
 use Rattle.queues.proofs.store_heads.Tie as tie
 
 link-end-requires : tie.Need-link-end-requires
-link-end-requires c κs = store-link _ _ _ _ (c .before .before .pre)
+link-end-requires c κs = search needs
 
 set-core-word-requires : tie.Need-set-core-word-requires
 set-core-word-requires c κs = search needs

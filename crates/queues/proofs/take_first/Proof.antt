@@ -1,6 +1,4 @@
--- What is written was read before: the next process, the last and the size.
 use borrow.Author.Needs.{needs}
-use Rattle.queues.proofs.Within.{take-parts}
 use Rattle.queues.proofs.take_first.Statement.{statement}
 use Rattle.queues.proofs.take_first.Tie as tie
 
@@ -29,17 +27,7 @@ same-length : tie.Need-same-length
 same-length c = search needs
 
 returns : tie.Need-returns
-returns c =
-    let unlinked = c .before .before in
-    let active = unlinked .before .before .before .before in
-    let size = active .before .before in
-    let last = size .before .before in
-    let old = last .before in
-    let next = old .before .before in
-    let start = next .before .before .before in
-    take-parts (start .args .t .now) (start .args .cores) (start .args .k) (start .pre .first) (next .process-word .ensures)
-    (old .core-word .ensures) (last .last-after .ensures) (size .core-word2 .ensures) (active .set-active .ensures)
-    (unlinked .set-process-word .ensures)
+returns c = cc
 
 pub take-first-spec : {M : Type 1} → statement M
 take-first-spec =
