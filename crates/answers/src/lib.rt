@@ -1,9 +1,8 @@
 // What a call answers, or why it is refused: the number returned and the answer words (docs/NUMBERS.md).
 ghost use mathlib.Core.Path.{_≡_};
-ghost use Prim.Native.Nat.{_<_};
-ghost use lib.ListN.{length};
-ghost use Rattle.rules.specs.Numbers.{TAKEN, MOVED, SLEPT, IDLE, GO, SENT, GOT, CHOSE, yes-with};
-ghost use Rattle.answers.specs.Four.{four, words-after};
+ghost use lib.Dec.{T};
+ghost use Rattle.rules.specs.Numbers.{TAKEN, MOVED, SLEPT, IDLE, GO, SENT, GOT, CHOSE, yes-with, lends, well-lent};
+ghost use Rattle.answers.specs.Four.{four, told};
 
 pub const SIZE: u32 = 20;
 
@@ -34,6 +33,9 @@ pub const OTHER_END: u32 = 32;
 pub const TWICE: u32 = 33;
 
 pub const FAULT: u32 = 34;
+
+// How many words are lent for the answer.
+pub const ANSWER_SIZE: usize = 3;
 
 // The number, and the words process, channel, value.
 pub struct Reply {
@@ -143,10 +145,17 @@ pub fn refused(number: u32) -> Reply
     }
 }
 
+// What is lent for the answer is as long as it must be.
+pub fn lent_well(answer: &[u32]) -> bool
+    ensures { λ r. ⌜ r ≡ well-lent (lends (now (answer .entry))) ⌝ }
+{
+    answer.len() == ANSWER_SIZE
+}
+
 // An accepted call's words are written; a refused one writes nothing.
 pub fn tell(answer: &mut [u32], r: Reply)
-    requires { ⌜ length (now answer) ≡ 3 ⌝ }
-    ensures { λ u. ⌜ now (answer .exit) ≡ words-after r (now (answer .entry)) ⌝ }
+    requires { ⌜ T (well-lent (lends (now answer))) ⌝ }
+    ensures { λ u. ⌜ lends (now (answer .exit)) ≡ told r (lends (now (answer .entry))) ⌝ }
 {
     if r.number < 20 {
         answer[0] = r.process;

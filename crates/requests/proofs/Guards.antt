@@ -9,13 +9,13 @@ use lib.Dec.{eqb}
 use lib.ListN.{length, getD, take, drop}
 use lib.Seq.{take-suc, drop-cons, drop-length}
 use borrow.Author.Tests.{eq-eqb, ne-eqb}
-use Rattle.rules.specs.Lists.{if_then_else_, within, member}
-use Rattle.rules.specs.Numbers.{CHANNEL, OTHER-END, TWICE, Answer}
-use Rattle.rules.specs.State.{receiving, State, Wiring, end-of}
+use Rattle.rules.specs.Lists.{if_then_else_, member}
+use Rattle.rules.specs.Numbers.{CHANNEL, OTHER-END, TWICE, Answer, refusal-number}
+use Rattle.rules.specs.State.{receiving, State, Wiring, is-channel, may-use}
 use Rattle.rules.specs.Rule.{Rule, run, _>>_}
 use Rattle.rules.specs.Requests.{unless, proper-guards}
 use Rattle.requests.specs.Asked.{end-number, guards-refusal}
-use Rattle.requests.proofs.Ends.{Checked, end-asked}
+use Rattle.requests.proofs.ChannelEnds.{Checked, end-asked}
 
 -- Who stands in a list
 
@@ -53,7 +53,7 @@ module _ (end : ℕ → ℕ) where
   same-earlier : (a b guards : List ℕ) → ((x : ℕ) → member x a ≡ member x b) → guards-refusal end a guards ≡ guards-refusal end b guards
   same-earlier a b [] same = refl
   same-earlier a b (c ∷ rest) same =
-      rw (same c) (ap (λ (n : ℕ). if eqb (end c) 0 then (if member c b then 33 else n) else end c)
+      rw (same c) (ap (λ (n : ℕ). if eqb (end c) 0 then (if member c b then refusal-number TWICE else n) else end c)
       (same-earlier (c ∷ a) (c ∷ b) rest (λ x. ap (λ (m : Bool). eqb c x || m) (same x))))
 
   module _ (guards : List ℕ) (i : ℕ) where
@@ -70,7 +70,7 @@ module _ (end : ℕ → ℕ) where
       bad-end bad = rw (drop-cons guards i 0, ← tested, ne-eqb n 0 bad)
 
       module _ (good : n ≡ 0) (b : Bool) (found : b ≡ member (getD guards i 0) (take i guards)) where
-        pub twice : b ≡ true → left ≡ 33
+        pub twice : b ≡ true → left ≡ refusal-number TWICE
         twice e = rw (drop-cons guards i 0, ← tested, eq-eqb n 0 good, ← found, e)
 
         pub next-left : b ≡ false → left ≡ guards-refusal end (take (i + 1) guards) (drop (i + 1) guards)
@@ -87,7 +87,7 @@ same-ends f g guards same = λ i. guards-refusal (λ c. same c i) [] guards
 
 module _ (t : List ℕ) (s : State) (q : Rule Answer) where
   guard-tests : (known own earlier : Bool) (n : ℕ) (rest : Rule (Unit {0})) → Checked t n (run (rest >> q) s) (run q s)
-      → Checked t (if eqb (end-number known own) 0 then (if earlier then 33 else n) else end-number known own)
+      → Checked t (if eqb (end-number known own) 0 then (if earlier then refusal-number TWICE else n) else end-number known own)
       (run (((unless known CHANNEL >> unless own OTHER-END) >> (unless (if earlier then false else true) TWICE >> rest)) >> q) s) (run q s)
   guard-tests true true true n rest h = (refl, refl)
   guard-tests true true false n rest h = h
@@ -98,5 +98,5 @@ module _ (t : List ℕ) (s : State) (q : Rule Answer) where
       → Checked t (guards-refusal (end-asked w receiving p) earlier guards) (run (proper-guards w p earlier guards >> q) s) (run q s)
   guards-checked w p earlier [] = refl
   guards-checked w p earlier (c ∷ rest) =
-      guard-tests (within 1 (length (w .ends)) c) (eqb (end-of w receiving c) p) (member c earlier) _ (proper-guards w p (c ∷ earlier) rest)
+      guard-tests (is-channel w c) (may-use w receiving p c) (member c earlier) _ (proper-guards w p (c ∷ earlier) rest)
       (guards-checked w p (c ∷ earlier) rest)

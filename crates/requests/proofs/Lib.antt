@@ -1,5 +1,5 @@
 pub mod Running
-pub mod Ends
+pub mod ChannelEnds
 pub mod Guards
 pub mod Written
 pub mod Meets

@@ -1,35 +1,44 @@
 // The requests (document 01): what the running process of core k does next, on a sound table.
 ghost use mathlib.Core.Path.{_≡_};
-ghost use Prim.Native.Nat.{_+_, _*_, _≤_, _<_};
+ghost use Prim.Native.Nat.{_≤_, _<_};
 ghost use mathlib.Core.List.{[]};
 ghost use lib.ListN.{length, getD, take};
-ghost use lib.Seq.{sets};
 ghost use Rattle.rules.specs.Lists.{member};
-ghost use Rattle.rules.specs.Requests.{request, send, receive, choose, yield, end};
-ghost use Rattle.rules.specs.State.{wiring};
+ghost use Rattle.rules.specs.Requests.{request, asks, send, receive, choose, yield, end};
+ghost use Rattle.rules.specs.State.{users};
+ghost use Rattle.rules.specs.Layout.{room, channel-stride, channel-reader, guard-places};
 ghost use Rattle.rules.specs.Packing.{view, M-of};
 ghost use Rattle.table.specs.Has.{HasProcess};
 ghost use Rattle.parts.specs.Does.{Card, Does};
-ghost use Rattle.requests.specs.Asked.{HasRunning, asker, end-refusal, guards-refusal, look-table, begun-table, enabling-table};
+ghost use Rattle.requests.specs.Asked.{asked, Idle, HasRunning, asker, end-refusal, guards-refusal, look-table, begun-table, enabling-table};
 use answers::Reply;
+
+// What is asked; the guards of a choice go beside it, since no enum can hold a slice.
+pub enum Request {
+    Send(u32, u32),
+    Receive(u32),
+    Choose,
+    Yield,
+    End,
+}
 
 // The running process with nothing in hand; 0 where there is none.
 fn requester(t: &[u32], cores: usize, k: usize) -> u32
     requires { ⌜ HasRunning (now t) cores k ⌝ }
     ensures { λ r. ⌜ r ≡ asker (now (t .entry)) cores k ⌝ }
 {
-    let p = table::core_word(t, k, 0);
+    let p = table::core_word(t, k, layout::CORE_RUNS);
     if p == 0 {
         return 0;
     }
-    let progress = table::process_word(t, cores, p, 6);
-    if progress != 0 {
+    let progress = table::process_word(t, cores, p, layout::PROCESS_PROGRESS);
+    if progress != layout::AT_NOTHING {
         return 0;
     }
     p
 }
 
-// Why process p may not stand at the end f (0 writer, 1 reader) of channel c; 0 where it may.
+// Why process p may not use the end f of channel c, its writer's or its reader's; 0 where it may.
 fn end_refusal(
     t: &[u32],
     cores: usize,
@@ -39,15 +48,14 @@ fn end_refusal(
     f: usize,
     c: u32,
 ) -> u32
-    requires { ⌜ f < 4 ⌝ ∗ ⌜ 8 + 16 * cores + 24 * processes + 4 * channels ≤ length (now t) ⌝ }
+    requires { ⌜ f < channel-stride ⌝ ∗ ⌜ room cores processes channels ≤ length (now t) ⌝ }
     ensures { λ r. ⌜ r ≡ end-refusal (now (t .entry)) cores processes channels p f c ⌝ }
 {
     if c == 0 {
         return answers::CHANNEL;
     }
     if c <= channels {
-        let owner = table::channel_word(t, cores, processes, c, f);
-        if owner == p {
+        if table::may_use(t, cores, processes, c, f, p) {
             return 0;
         }
         return answers::OTHER_END;
@@ -55,63 +63,56 @@ fn end_refusal(
     answers::CHANNEL
 }
 
-// The request of process p starts at the look of this number (1 of send, 6 of receive), at channel c.
+// The request of process p starts at the look of this number, at channel c.
 fn begin_look(t: &mut [u32], cores: usize, p: u32, number: u32, c: u32)
     requires { ⌜ HasProcess (now t) cores p ⌝ }
     ensures { λ r. ⌜ now (t .exit) ≡ look-table (now (t .entry)) cores p number c ⌝ }
 {
-    let i = p as usize;
-    t[8 + 16 * cores + 24 * (i - 1) + 6] = number;
-    t[8 + 16 * cores + 24 * (i - 1) + 7] = c;
+    table::set_process_word(t, cores, p, layout::PROCESS_PROGRESS, number);
+    table::set_process_word(t, cores, p, layout::PROCESS_CHANNEL, c);
 }
 
 // Send stores the value in the process's data word, and starts at look.
-pub fn send(
+fn send(
     t: &mut [u32],
     cores: usize,
     processes: usize,
     channels: u32,
     k: usize,
+    p: u32,
     c: u32,
     v: u32,
 ) -> Reply
-    requires { ⌜ Card (now t) cores processes k ⌝ ∗ ⌜ channels ≡ M-of (now t) ⌝ }
-    ensures { λ r. ⌜ Does (request (wiring (view (now (t .entry)))) (send c v) k) (now (t .entry)) r (now (t .exit)) ⌝ }
+    requires { ⌜ Idle (now t) cores processes channels k p ⌝ }
+    ensures { λ r. ⌜ Does (asks (users (view (now (t .entry)))) k p (send c v)) (now (t .entry)) r (now (t .exit)) ⌝ }
 {
-    let p = requester(t, cores, k);
-    if p == 0 {
-        return answers::refused(answers::BUSY);
-    }
-    let why = end_refusal(t, cores, processes, channels, p, 0, c);
+    let why = end_refusal(t, cores, processes, channels, p, layout::CHANNEL_WRITER, c);
     if why != 0 {
         return answers::refused(why);
     }
-    table::set_process_word(t, cores, p, 1, v);
-    begin_look(t, cores, p, 1, c);
+    table::set_process_word(t, cores, p, layout::PROCESS_DATA, v);
+    begin_look(t, cores, p, layout::AT_SEND_LOOK, c);
     answers::taken(p, c)
 }
 
 // Receive starts at look.
-pub fn receive(
+fn receive(
     t: &mut [u32],
     cores: usize,
     processes: usize,
     channels: u32,
     k: usize,
+    p: u32,
     c: u32,
 ) -> Reply
-    requires { ⌜ Card (now t) cores processes k ⌝ ∗ ⌜ channels ≡ M-of (now t) ⌝ }
-    ensures { λ r. ⌜ Does (request (wiring (view (now (t .entry)))) (receive c) k) (now (t .entry)) r (now (t .exit)) ⌝ }
+    requires { ⌜ Idle (now t) cores processes channels k p ⌝ }
+    ensures { λ r. ⌜ Does (asks (users (view (now (t .entry)))) k p (receive c)) (now (t .entry)) r (now (t .exit)) ⌝ }
 {
-    let p = requester(t, cores, k);
-    if p == 0 {
-        return answers::refused(answers::BUSY);
-    }
-    let why = end_refusal(t, cores, processes, channels, p, 1, c);
+    let why = end_refusal(t, cores, processes, channels, p, layout::CHANNEL_READER, c);
     if why != 0 {
         return answers::refused(why);
     }
-    begin_look(t, cores, p, 6, c);
+    begin_look(t, cores, p, layout::AT_RECEIVE_LOOK, c);
     answers::taken(p, c)
 }
 
@@ -139,13 +140,13 @@ fn guards_refusal(
     p: u32,
     guards: &[u32],
 ) -> u32
-    requires { ⌜ 8 + 16 * cores + 24 * processes + 4 * channels ≤ length (now t) ⌝ }
-    ensures { λ r. ⌜ r ≡ guards-refusal (end-refusal (now (t .entry)) cores processes channels p 1) [] (now (guards .entry)) ⌝ }
+    requires { ⌜ room cores processes channels ≤ length (now t) ⌝ }
+    ensures { λ r. ⌜ r ≡ guards-refusal (end-refusal (now (t .entry)) cores processes channels p channel-reader) [] (now (guards .entry)) ⌝ }
 {
     let mut i = 0;
     while i < guards.len() {
         let c = guards[i];
-        let why = end_refusal(t, cores, processes, channels, p, 1, c);
+        let why = end_refusal(t, cores, processes, channels, p, layout::CHANNEL_READER, c);
         if why != 0 {
             return why;
         }
@@ -157,59 +158,48 @@ fn guards_refusal(
     0
 }
 
-// The words from `at` on become these.
-fn copy_words(t: &mut [u32], at: usize, words: &[u32])
-    requires { ⌜ at + length (now words) ≤ length (now t) ⌝ }
-    ensures { λ r. ⌜ now (t .exit) ≡ sets (now (t .entry)) at (now (words .entry)) ⌝ }
-{
-    let mut i = 0;
-    while i < words.len() {
-        t[at + i] = words[i];
-        i += 1;
-    }
-}
-
 // Process p begins a choice: enabling and not-ready are set, waiting is clear, the count is 1.
 fn begin_choice(t: &mut [u32], cores: usize, p: u32)
     requires { ⌜ HasProcess (now t) cores p ⌝ }
     ensures { λ r. ⌜ now (t .exit) ≡ begun-table (now (t .entry)) cores p ⌝ }
 {
-    let i = p as usize;
-    t[8 + 16 * cores + 24 * (i - 1) + 2] = 1;
-    t[8 + 16 * cores + 24 * (i - 1) + 3] = 1;
-    t[8 + 16 * cores + 24 * (i - 1) + 4] = 0;
-    t[8 + 16 * cores + 24 * (i - 1) + 5] = 1;
+    table::set_process_word(t, cores, p, layout::PROCESS_ENABLING, 1);
+    table::set_process_word(t, cores, p, layout::PROCESS_NOT_READY, 1);
+    table::set_process_word(t, cores, p, layout::PROCESS_WAITING, 0);
+    table::set_process_word(t, cores, p, layout::PROCESS_COUNT, 1);
 }
 
 // Process p is at the enabling look of the first of its guards.
 fn begin_enabling(t: &mut [u32], cores: usize, p: u32, guards: &[u32])
-    requires { ⌜ HasProcess (now t) cores p ⌝ ∗ ⌜ length (now guards) ≤ 8 ⌝ }
+    requires { ⌜ HasProcess (now t) cores p ⌝ ∗ ⌜ length (now guards) ≤ guard-places ⌝ }
     ensures { λ r. ⌜ now (t .exit) ≡ enabling-table (now (t .entry)) cores p (now (guards .entry)) ⌝ }
 {
-    let i = p as usize;
-    let at = 8 + 16 * cores + 24 * (i - 1);
-    t[at + 6] = 11;
-    t[at + 9] = guards.len() as u32;
-    t[at + 10] = 1;
-    copy_words(t, at + 12, guards);
+    let size = guards.len() as u32;
+    table::set_process_word(
+        t,
+        cores,
+        p,
+        layout::PROCESS_PROGRESS,
+        layout::AT_ENABLE_LOOK,
+    );
+    table::set_process_word(t, cores, p, layout::PROCESS_GUARDS, size);
+    table::set_process_word(t, cores, p, layout::PROCESS_INDEX, 1);
+    table::set_process_words(t, cores, p, layout::PROCESS_FIRST_GUARD, guards);
 }
 
 // Choose sets enabling and not-ready, count 1, waiting clear, and starts enabling at the first guard.
-pub fn choose(
+fn choose(
     t: &mut [u32],
     cores: usize,
     processes: usize,
     channels: u32,
     k: usize,
+    p: u32,
     guards: &[u32],
 ) -> Reply
-    requires { ⌜ Card (now t) cores processes k ⌝ ∗ ⌜ channels ≡ M-of (now t) ⌝ }
-    ensures { λ r. ⌜ Does (request (wiring (view (now (t .entry)))) (choose (now (guards .entry))) k) (now (t .entry)) r (now (t .exit)) ⌝ }
+    requires { ⌜ Idle (now t) cores processes channels k p ⌝ }
+    ensures { λ r. ⌜ Does (asks (users (view (now (t .entry)))) k p (choose (now (guards .entry)))) (now (t .entry)) r (now (t .exit)) ⌝ }
 {
-    let p = requester(t, cores, k);
-    if p == 0 {
-        return answers::refused(answers::BUSY);
-    }
     if guards.len() == 0 {
         return answers::refused(answers::GUARDS);
     }
@@ -226,30 +216,48 @@ pub fn choose(
 }
 
 // Yield puts the process at the end of the active queue with outcome GO and leaves nothing running.
-pub fn yield_core(t: &mut [u32], cores: usize, processes: usize, k: usize) -> Reply
-    requires { ⌜ Card (now t) cores processes k ⌝ }
-    ensures { λ r. ⌜ Does (request (wiring (view (now (t .entry)))) yield k) (now (t .entry)) r (now (t .exit)) ⌝ }
+fn yields(t: &mut [u32], cores: usize, processes: usize, channels: u32, k: usize, p: u32) -> Reply
+    requires { ⌜ Idle (now t) cores processes channels k p ⌝ }
+    ensures { λ r. ⌜ Does (asks (users (view (now (t .entry)))) k p yield) (now (t .entry)) r (now (t .exit)) ⌝ }
 {
-    let p = requester(t, cores, k);
-    if p == 0 {
-        return answers::refused(answers::BUSY);
-    }
-    table::set_process_word(t, cores, p, 6, 20);
+    table::set_process_word(t, cores, p, layout::PROCESS_PROGRESS, layout::DUE_GO);
     queues::join(t, cores, k, p);
-    parts::has_task(t, k, 0, 0);
+    parts::has_task(t, k, layout::TASK_NONE, 0);
     answers::taken(p, 0)
 }
 
 // End makes the process ended and leaves nothing running.
-pub fn end_process(t: &mut [u32], cores: usize, processes: usize, k: usize) -> Reply
-    requires { ⌜ Card (now t) cores processes k ⌝ }
-    ensures { λ r. ⌜ Does (request (wiring (view (now (t .entry)))) end k) (now (t .entry)) r (now (t .exit)) ⌝ }
+fn ends(t: &mut [u32], cores: usize, processes: usize, channels: u32, k: usize, p: u32) -> Reply
+    requires { ⌜ Idle (now t) cores processes channels k p ⌝ }
+    ensures { λ r. ⌜ Does (asks (users (view (now (t .entry)))) k p end) (now (t .entry)) r (now (t .exit)) ⌝ }
+{
+    table::set_process_word(t, cores, p, layout::PROCESS_PLACE, layout::PLACE_ENDED);
+    parts::has_task(t, k, layout::TASK_NONE, 0);
+    answers::taken(p, 0)
+}
+
+// A request of the running process of core k: BUSY where nothing runs there, or something is in hand.
+pub fn make(
+    t: &mut [u32],
+    cores: usize,
+    processes: usize,
+    channels: u32,
+    k: usize,
+    r: Request,
+    guards: &[u32],
+) -> Reply
+    requires { ⌜ Card (now t) cores processes k ⌝ ∗ ⌜ channels ≡ M-of (now t) ⌝ }
+    ensures { λ a. ⌜ Does (request (users (view (now (t .entry)))) (asked r (now (guards .entry))) k) (now (t .entry)) a (now (t .exit)) ⌝ }
 {
     let p = requester(t, cores, k);
     if p == 0 {
         return answers::refused(answers::BUSY);
     }
-    table::set_process_word(t, cores, p, 0, 4);
-    parts::has_task(t, k, 0, 0);
-    answers::taken(p, 0)
+    match r {
+        Request::Send(c, v) => send(t, cores, processes, channels, k, p, c, v),
+        Request::Receive(c) => receive(t, cores, processes, channels, k, p, c),
+        Request::Choose => choose(t, cores, processes, channels, k, p, guards),
+        Request::Yield => yields(t, cores, processes, channels, k, p),
+        Request::End => ends(t, cores, processes, channels, k, p),
+    }
 }

@@ -5,7 +5,7 @@ use mathlib.Core.Bool.{Bool, true, false}
 use mathlib.Core.List.{List, [], _∷_, _++_, map}
 use lib.ListN.{replicate}
 use Rattle.rules.specs.Lists.{tabulate, from, member, if_then_else_}
-use Rattle.rules.specs.Numbers.{Answer, BUILT, TAKEN, MOVED, SLEPT, GO, SENT, GOT, CHOSE, ROOM, yes-with, no-because, number-of, words-of}
+use Rattle.rules.specs.Numbers.{Answer, BUILT, TAKEN, MOVED, SLEPT, GO, SENT, GOT, CHOSE, ROOM, yes-with, no-because, number-of, Lent, lends, written}
 use Rattle.rules.specs.State.{Place, queued, asleep, ended, go, nothing, due, Alternation, Process, no-task, trigger, wake-up, Work, free}
 use Rattle.rules.specs.Items.{core-of, process-of, no-alternation, put, alternation, transfers}
 use Rattle.rules.specs.Requests.{send, receive, choose}
@@ -13,7 +13,7 @@ use Rattle.rules.specs.Layout.{room, channel-holder, channel-transfers}
 use Rattle.rules.specs.Packing.{pack, view, word-of-channel}
 use Rattle.rules.specs.Calls.{Result, Ask, the-step, a-request, call, Built, set-up-call}
 
--- Scripts: calls one after the other, each on the table that the one before left, with an answer slice of 3 words.
+-- Scripts: calls one after the other, each on the table that the one before left, with words of 0 lent for the answer.
 
 pub record Turn : Type 0 where
   pub on : ℕ
@@ -32,21 +32,24 @@ receives k c = record { on = k; ask = a-request (receive c) }
 abbrev pub chooses : ℕ → List ℕ → Turn
 chooses k gs = record { on = k; ask = a-request (choose gs) }
 
+abbrev pub zeros : Lent
+zeros = lends (0 ∷ 0 ∷ 0 ∷ [])
+
 abbrev pub turn : List ℕ → Turn → Result
-turn t x = call t (0 ∷ 0 ∷ 0 ∷ []) (x .on) (x .ask)
+turn t x = call t zeros (x .on) (x .ask)
 
 -- what each turn returned, number and words, and the table after the last
-abbrev pub answers : List ℕ → List Turn → List (List ℕ)
+abbrev pub answers : List ℕ → List Turn → List (ℕ × Lent)
 answers t [] = []
-answers t (x ∷ xs) = let r = turn t x in (r .number ∷ r .answer) ∷ answers (r .table) xs
+answers t (x ∷ xs) = let r = turn t x in (r .number, r .answer) ∷ answers (r .table) xs
 
 abbrev pub after : List ℕ → List Turn → List ℕ
 after t [] = t
 after t (x ∷ xs) = after (turn t x .table) xs
 
 -- each answer as its number and its words
-abbrev pub said : List Answer → List (List ℕ)
-said l = map (λ (a : Answer). number-of (yes-with a) ∷ words-of a) l
+abbrev pub said : List Answer → List (ℕ × Lent)
+said l = map (λ (a : Answer). (number-of (yes-with a), written a)) l
 
 -- 1. "K=1, N=1, M=0: 48 words BUILT; 47 and 49 ROOM."
 abbrev pub set-up-of : ℕ → Built
@@ -153,7 +156,7 @@ one-triggers = steps 0 ∷ steps 0 ∷ sends 0 1 77 ∷ steps 0 ∷ steps 0 ∷ 
 
 -- A trigger of process 2, but for its alternation state: what the step answers, and what it leaves.
 pub record Triggered : Type 0 where
-  pub answer : List (List ℕ)
+  pub answer : List (ℕ × Lent)
   pub alternation : Alternation
   pub place : Place
   pub work : Work

@@ -1,13 +1,13 @@
--- Each call of the library as a function of the table and its arguments: the number returned, the answer words and the table
+-- Each call of the library as a function of the table and its arguments: the number returned, what was lent for the answer and the table
 -- afterwards, for every table and every argument. These are what the exports' contracts cite.
 use Prim.Native.Nat.{ℕ}
 use mathlib.Core.List.{List}
 use mathlib.Core.Option.{Option, none, some}
-use lib.Dec.{eqb, ltb}
+use lib.Dec.{ltb}
 use lib.ListN.{length}
 use Rattle.rules.specs.Lists.{if_then_else_}
-use Rattle.rules.specs.Numbers.{Answer, BUILT, Refusal, ANSWER, DAMAGED, CORE, yes-with, no-because, number-of, words-of}
-use Rattle.rules.specs.State.{State, Wiring, wiring}
+use Rattle.rules.specs.Numbers.{Answer, BUILT, Refusal, ANSWER, DAMAGED, CORE, yes-with, no-because, number-of, Lent, well-lent, written}
+use Rattle.rules.specs.State.{State, Wiring, users}
 use Rattle.rules.specs.Rule.{Rule, Ran, accepted, refused, run}
 use Rattle.rules.specs.Requests.{Request, send, receive, choose, yield, end, request}
 use Rattle.rules.specs.Scheduler.{step}
@@ -15,18 +15,18 @@ use Rattle.rules.specs.SetUp.{set-up-refusal, set-up-state}
 use Rattle.rules.specs.Packing.{pack, view}
 use Rattle.rules.specs.Soundness.{sound}
 
--- What a call gives back: the number, and the answer slice and the table as it leaves them.
+-- What a call gives back: the number, and what was lent for the answer and the table as it leaves them.
 pub record Result : Type 0 where
   pub number : ℕ
-  pub answer : List ℕ
+  pub answer : Lent
   pub table : List ℕ
 
 -- "A refusal writes nothing anywhere."
-abbrev pub refusal : List ℕ → List ℕ → Refusal → Result
+abbrev pub refusal : List ℕ → Lent → Refusal → Result
 refusal t answer r = record { number = number-of (no-because r); answer = answer; table = t }
 
 abbrev pub acceptance : Answer → State → Result
-acceptance a s = record { number = number-of (yes-with a); answer = words-of a; table = pack s }
+acceptance a s = record { number = number-of (yes-with a); answer = written a; table = pack s }
 
 -- "There are three kinds of call: set-up; a request ..; a step"
 pub data Ask : Type 0 where
@@ -37,44 +37,44 @@ abbrev pub rule-of : Wiring → Ask → ℕ → Rule Answer
 rule-of w the-step k = step k
 rule-of w (a-request r) k = request w r k
 
-abbrev pub outcome-of : List ℕ → List ℕ → Ran Answer → Result
+abbrev pub outcome-of : List ℕ → Lent → Ran Answer → Result
 outcome-of t answer (accepted a s) = acceptance a s
 outcome-of t answer (refused r) = refusal t answer r
 
 -- "Other calls 25, 26, 27, then" what the rule refuses: 28 or 29, 30, guard by guard 31, 32, 33, and 34 last.
-unfoldable pub call : List ℕ → List ℕ → ℕ → Ask → Result
+unfoldable pub call : List ℕ → Lent → ℕ → Ask → Result
 call t answer k ask =
     let s = view t in
-    if eqb (length answer) 3
+    if well-lent answer
     then (if sound t
-    then (if ltb k (length (s .cores)) then outcome-of t answer (run (rule-of (wiring s) ask k) s) else refusal t answer CORE)
+    then (if ltb k (length (s .cores)) then outcome-of t answer (run (rule-of (users s) ask k) s) else refusal t answer CORE)
     else refusal t answer DAMAGED)
     else refusal t answer ANSWER
 
 -- The exports
 
 -- fontarisca_step(table, answer, core)
-abbrev pub step-call : List ℕ → List ℕ → ℕ → Result
+abbrev pub step-call : List ℕ → Lent → ℕ → Result
 step-call t answer k = call t answer k the-step
 
 -- fontarisca_send(table, answer, core, channel, value)
-abbrev pub send-call : List ℕ → List ℕ → ℕ → ℕ → ℕ → Result
+abbrev pub send-call : List ℕ → Lent → ℕ → ℕ → ℕ → Result
 send-call t answer k c v = call t answer k (a-request (send c v))
 
 -- fontarisca_receive(table, answer, core, channel)
-abbrev pub receive-call : List ℕ → List ℕ → ℕ → ℕ → Result
+abbrev pub receive-call : List ℕ → Lent → ℕ → ℕ → Result
 receive-call t answer k c = call t answer k (a-request (receive c))
 
 -- fontarisca_choose(table, answer, core, guards)
-abbrev pub choose-call : List ℕ → List ℕ → ℕ → List ℕ → Result
+abbrev pub choose-call : List ℕ → Lent → ℕ → List ℕ → Result
 choose-call t answer k gs = call t answer k (a-request (choose gs))
 
 -- fontarisca_yield(table, answer, core)
-abbrev pub yield-call : List ℕ → List ℕ → ℕ → Result
+abbrev pub yield-call : List ℕ → Lent → ℕ → Result
 yield-call t answer k = call t answer k (a-request yield)
 
 -- fontarisca_end(table, answer, core)
-abbrev pub end-call : List ℕ → List ℕ → ℕ → Result
+abbrev pub end-call : List ℕ → Lent → ℕ → Result
 end-call t answer k = call t answer k (a-request end)
 
 -- "BUILT: set-up done (takes no answer slice)"

@@ -8,7 +8,7 @@ use mathlib.Core.Logic.{_↔_}
 use lib.Dec.{T}
 use lib.ListN.{length, getD}
 use Rattle.rules.specs.Lists.{total, member, times, first, last}
-use Rattle.rules.specs.Numbers.{Answer, BUILT, TAKEN, MOVED, SLEPT, IDLE, GO, SENT, GOT, CHOSE, Refusal, SIZE, PAIRS, ROOM, NAME, SELF, ANSWER, DAMAGED, CORE, BUSY, AWAITED, GUARDS, CHANNEL, OTHER-END, TWICE, FAULT, reply, refusal-number, words-of}
+use Rattle.rules.specs.Numbers.{Answer, BUILT, TAKEN, MOVED, SLEPT, IDLE, GO, SENT, GOT, CHOSE, Refusal, SIZE, PAIRS, ROOM, NAME, SELF, ANSWER, DAMAGED, CORE, BUSY, AWAITED, GUARDS, CHANNEL, OTHER-END, TWICE, FAULT, reply, refusal-number, Lent, well-lent, written}
 use Rattle.rules.specs.State.{Way, copy, doing, no-task, runs, free, Core, State, wiring}
 use Rattle.rules.specs.Items.{progress, transfers, Item, core-of, get}
 use Rattle.rules.specs.Requests.{send, receive, choose, yield, end}
@@ -29,7 +29,7 @@ use Rattle.rules.specs.Shortcuts.{Shortcuts}
 
 -- the number and the words of an answer
 abbrev pub row : Answer → List ℕ
-row a = reply a .number ∷ words-of a
+row a = reply a .number ∷ written a .words
 
 -- `computed`, numbers-table: 01's table, row by row.
 pub record NumbersTable : Type 0 where
@@ -47,7 +47,7 @@ listed =
     0 ∷ 1 ∷ 2 ∷ 3 ∷ 4 ∷ 5 ∷ 6 ∷ 7 ∷ 8 ∷ 20 ∷ 21 ∷ 22 ∷ 23 ∷ 24 ∷ 25 ∷ 26 ∷ 27 ∷ 28 ∷ 29 ∷ 30 ∷ 31 ∷ 32 ∷ 33 ∷ 34 ∷ []
 
 pub record ListedNumber : Type 0 where
-  pub calls : (t answer : List ℕ) (k : ℕ) (ask : Ask) → T (member (call t answer k ask .number) listed)
+  pub calls : (t : List ℕ) (answer : Lent) (k : ℕ) (ask : Ask) → T (member (call t answer k ask .number) listed)
   pub set-up : (k n m : ℕ) (pairs t : List ℕ) → T (member (set-up-call k n m pairs t .number) listed)
 
 -- the numbers that include/fontarisca.h lists for each export
@@ -75,12 +75,12 @@ step-numbers = 2 ∷ 3 ∷ 4 ∷ 5 ∷ 6 ∷ 7 ∷ 8 ∷ 25 ∷ 26 ∷ 27 ∷ 29
 -- `own-numbers`: each export returns one of its numbers.
 pub record OwnNumbers : Type 0 where
   pub set-up : (k n m : ℕ) (pairs t : List ℕ) → T (member (set-up-call k n m pairs t .number) set-up-numbers)
-  pub send : (t answer : List ℕ) (k c v : ℕ) → T (member (send-call t answer k c v .number) send-numbers)
-  pub receive : (t answer : List ℕ) (k c : ℕ) → T (member (receive-call t answer k c .number) receive-numbers)
-  pub choose : (t answer : List ℕ) (k : ℕ) (gs : List ℕ) → T (member (choose-call t answer k gs .number) choose-numbers)
-  pub yield : (t answer : List ℕ) (k : ℕ) → T (member (yield-call t answer k .number) yield-numbers)
-  pub end : (t answer : List ℕ) (k : ℕ) → T (member (end-call t answer k .number) end-numbers)
-  pub step : (t answer : List ℕ) (k : ℕ) → T (member (step-call t answer k .number) step-numbers)
+  pub send : (t : List ℕ) (answer : Lent) (k c v : ℕ) → T (member (send-call t answer k c v .number) send-numbers)
+  pub receive : (t : List ℕ) (answer : Lent) (k c : ℕ) → T (member (receive-call t answer k c .number) receive-numbers)
+  pub choose : (t : List ℕ) (answer : Lent) (k : ℕ) (gs : List ℕ) → T (member (choose-call t answer k gs .number) choose-numbers)
+  pub yield : (t : List ℕ) (answer : Lent) (k : ℕ) → T (member (yield-call t answer k .number) yield-numbers)
+  pub end : (t : List ℕ) (answer : Lent) (k : ℕ) → T (member (end-call t answer k .number) end-numbers)
+  pub step : (t : List ℕ) (answer : Lent) (k : ℕ) → T (member (step-call t answer k .number) step-numbers)
 
 -- `computed`, reached-numbers: and each of them in some case.
 pub record ReachedNumbers : Type 0 where
@@ -95,14 +95,14 @@ pub record ReachedNumbers : Type 0 where
 -- `refused-exactly`: a refusal comes exactly in its stated case: a call returns its number where its case is given and none before it in
 -- 01's order, and only there.
 pub record RefusedExactly : Type 0 where
-  pub calls : (t answer : List ℕ) (k : ℕ) (ask : Ask) (why : Refusal)
+  pub calls : (t : List ℕ) (answer : Lent) (k : ℕ) (ask : Ask) (why : Refusal)
       → (call t answer k ask .number ≡ refusal-number why) ↔ First (call-cases t answer k ask) why
   pub set-up : (k n m : ℕ) (pairs t : List ℕ) (why : Refusal)
       → (set-up-call k n m pairs t .number ≡ refusal-number why) ↔ First (set-up-cases k n m pairs t) why
 
 -- `refusal-writes-nothing`: "A refusal writes nothing anywhere." (Refusals are the numbers from 20 up.)
 pub record RefusalWritesNothing : Type 0 where
-  pub calls : (t answer : List ℕ) (k : ℕ) (ask : Ask) → 20 ≤ call t answer k ask .number
+  pub calls : (t : List ℕ) (answer : Lent) (k : ℕ) (ask : Ask) → 20 ≤ call t answer k ask .number
       → (call t answer k ask .answer ≡ answer) × (call t answer k ask .table ≡ t)
   pub set-up : (k n m : ℕ) (pairs t : List ℕ) → 20 ≤ set-up-call k n m pairs t .number → set-up-call k n m pairs t .table ≡ t
 
@@ -113,8 +113,8 @@ pub record RefusalWritesNothing : Type 0 where
 
 -- What an export gives back
 
--- What came back from an export: its number, and the answer slice and the table as it left them; from set-up.
-abbrev pub gives : ℕ → List ℕ → List ℕ → Result
+-- What came back from an export: its number, and what was lent for the answer and the table as it left them; from set-up.
+abbrev pub gives : ℕ → Lent → List ℕ → Result
 gives n answer t = record { number = n; answer = answer; table = t }
 
 abbrev pub builds : ℕ → List ℕ → Built
@@ -133,7 +133,7 @@ pub record MeetsBuilt (promised b : Built) : Type 0 where
 
 -- `same-result`: "two results which meet a promise are equal"
 pub record SameResult : Type 0 where
-  pub calls : (t answer : List ℕ) (k : ℕ) (ask : Ask) (r r′ : Result) → Meets (call t answer k ask) r → Meets (call t answer k ask) r′ → r ≡ r′
+  pub calls : (t : List ℕ) (answer : Lent) (k : ℕ) (ask : Ask) (r r′ : Result) → Meets (call t answer k ask) r → Meets (call t answer k ask) r′ → r ≡ r′
   pub set-up : (k n m : ℕ) (pairs t : List ℕ) (r r′ : Built)
       → MeetsBuilt (set-up-call k n m pairs t) r → MeetsBuilt (set-up-call k n m pairs t) r′ → r ≡ r′
 
@@ -202,7 +202,7 @@ sends-word (a-request end) = true
 -- `stays-sound`: "Every accepted call on a sound table leaves it sound"; a refused one leaves the table as it was, so every call does.
 -- An accepted set-up leaves a sound table whatever the table held.
 pub record StaysSound : Type 0 where
-  pub calls : (t answer : List ℕ) (k : ℕ) (ask : Ask) → T (sends-word ask) → T (sound t) → T (sound (call t answer k ask .table))
+  pub calls : (t : List ℕ) (answer : Lent) (k : ℕ) (ask : Ask) → T (sends-word ask) → T (sound t) → T (sound (call t answer k ask .table))
   pub set-up : (k n m : ℕ) (pairs t : List ℕ) → set-up-call k n m pairs t .number ≡ 0 → T (sound (set-up-call k n m pairs t .table))
 
 -- The published rules
@@ -226,11 +226,11 @@ pub record Copying (s : State) (k : ℕ) (ask : Ask) (c : ℕ) : Type 0 where
   pub at-copy : get progress s process ≡ doing (copy way c partner)
 
 -- `only-copy-counts`: "only copy counts": no other call changes a channel's transfers. At copy "transfers go up by one", and the number
--- "goes round from 4294967295 to 0". (On a sound table a step at copy is refused for nothing but the answer slice.)
+-- "goes round from 4294967295 to 0". (On a sound table a step at copy is refused for nothing but what is lent.)
 pub record OnlyCopyCounts : Type 0 where
-  pub unless-copying : (t answer : List ℕ) (k : ℕ) (ask : Ask) (c : ℕ) → T (sends-word ask) → T (sound t) → (Copying (view t) k ask c → ⊥)
+  pub unless-copying : (t : List ℕ) (answer : Lent) (k : ℕ) (ask : Ask) (c : ℕ) → T (sends-word ask) → T (sound t) → (Copying (view t) k ask c → ⊥)
       → get transfers (view (call t answer k ask .table)) c ≡ get transfers (view t) c
-  pub copying : (t answer : List ℕ) (k : ℕ) (ask : Ask) (c : ℕ) → T (sound t) → length answer ≡ 3 → Copying (view t) k ask c
+  pub copying : (t : List ℕ) (answer : Lent) (k : ℕ) (ask : Ask) (c : ℕ) → T (sound t) → T (well-lent answer) → Copying (view t) k ask c
       → get transfers (view (call t answer k ask .table)) c ≡ (get transfers (view t) c + 1) % 4294967296
 
 -- Demand 3: "Two calls on different cores whose touched items have nothing in common give the same two answers and the same table in
@@ -240,11 +240,11 @@ pub record OnlyCopyCounts : Type 0 where
 abbrev pub Apart : List Item → List Item → Type 0
 Apart l m = (x : Item) → List·Memᴰ x l → List·Memᴰ x m → ⊥
 
--- a call that isn't a set-up: its core, what it asks, and the answer slice as it was lent
+-- a call that isn't a set-up: its core, what it asks, and what is lent for the answer
 pub record Call : Type 0 where
   pub core : ℕ
   pub ask : Ask
-  pub answer : List ℕ
+  pub answer : Lent
 
 abbrev pub perform : Call → List ℕ → Result
 perform c t = call t (c .answer) (c .core) (c .ask)

@@ -1,7 +1,10 @@
 -- Document 01, "Numbers returned": each answer and each refusal is a constructor; `reply` gives the number and the words of an answer,
 -- `refusal-number` the number of a refusal.
 use Prim.Native.Nat.{ℕ}
+use mathlib.Core.Bool.{Bool}
 use mathlib.Core.List.{List, [], _∷_}
+use lib.Dec.{eqb}
+use lib.ListN.{length}
 
 -- What an accepted call answers: p is a process, c a channel, v a value.
 pub data Answer : Type 0 where
@@ -70,6 +73,19 @@ abbrev pub number-of : Said → ℕ
 number-of (yes-with a) = reply a .number
 number-of (no-because why) = refusal-number why
 
+-- What is lent for the answer, slice by slice; how long each must be; what an accepted call leaves there.
 -- "The answer slice has exactly 3 words: process, channel, value"
-abbrev pub words-of : Answer → List ℕ
-words-of a = reply a .process ∷ reply a .channel ∷ reply a .value ∷ []
+pub record Lent : Type 0 where
+  pub words : List ℕ
+
+abbrev pub lends : List ℕ → Lent
+lends words = record { words = words }
+
+abbrev pub answer-size : ℕ
+answer-size = 3
+
+abbrev pub well-lent : Lent → Bool
+well-lent l = eqb (length (l .words)) answer-size
+
+abbrev pub written : Answer → Lent
+written a = lends (reply a .process ∷ reply a .channel ∷ reply a .value ∷ [])

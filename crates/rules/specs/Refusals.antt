@@ -1,5 +1,5 @@
 -- Document 01, "Numbers returned": when each refusal is given, and in which order. Written apart from the rules: they don't use it.
-use Prim.Native.Nat.{ℕ, _+_, _*_}
+use Prim.Native.Nat.{ℕ, _*_}
 use mathlib.Core.Bool.{Bool, true, false, not, _||_}
 use mathlib.Core.List.{List, [], _∷_, _++_, map}
 use mathlib.Core.Option.{Option, none, some}
@@ -23,6 +23,8 @@ use Rattle.rules.specs.Numbers.{
   OTHER-END,
   TWICE,
   FAULT,
+  Lent,
+  well-lent,
 }
 use Rattle.rules.specs.State.{
   Place,
@@ -195,10 +197,10 @@ ask-cases s w (a-request r) = request-cases s w r
 
 -- "ANSWER: answer slice isn't 3 long"; "DAMAGED: table not sound"; "CORE: no such core". "Other calls 25, 26, 27, then 28 or 29, then 30,
 -- then guard by guard 31, 32, 33, and 34 last."
-abbrev pub call-cases : (t answer : List ℕ) (k : ℕ) → Ask → List Case
+abbrev pub call-cases : List ℕ → Lent → (k : ℕ) → Ask → List Case
 call-cases t answer k ask =
     let s = view t in
-    ANSWER when not (eqb (length answer) 3)
+    ANSWER when not (well-lent answer)
     ∷ DAMAGED when not (sound t)
     ∷ CORE when not (ltb k (length (s .cores)))
     ∷ ask-cases s (core-of s k .work) ask

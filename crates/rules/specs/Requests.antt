@@ -2,7 +2,6 @@
 use Prim.Native.Nat.{ℕ}
 use mathlib.Core.Bool.{Bool, true, false}
 use mathlib.Core.List.{List, [], _∷_}
-use lib.Dec.{eqb}
 use lib.ListN.{length}
 use Rattle.rules.specs.Lists.{if_then_else_, within, member}
 use Rattle.rules.specs.Numbers.{Answer, TAKEN, Refusal, BUSY, GUARDS, CHANNEL, OTHER-END, TWICE}
@@ -24,7 +23,8 @@ use Rattle.rules.specs.State.{
   runs,
   free,
   Wiring,
-  end-of,
+  is-channel,
+  may-use,
 }
 use Rattle.rules.specs.Items.{core, place, data-word, alternation, progress}
 use Rattle.rules.specs.Rule.{Rule, done, refuse, the, becomes, go-on, _>>=_, _>>_}
@@ -58,8 +58,8 @@ requester (runs p) = do
 -- "CHANNEL: a channel not in 1 to M"; "OTHER_END: sender isn't the writer, receiver or chooser isn't the reader"
 abbrev pub proper-end : Wiring → Way → ℕ → ℕ → Rule (Unit {0})
 proper-end w way p c = do
-  unless (within 1 (length (w .ends)) c) CHANNEL
-  unless (eqb (end-of w way c) p) OTHER-END
+  unless (is-channel w c) CHANNEL
+  unless (may-use w way p c) OTHER-END
 
 -- "guard by guard 31, 32, 33"; "TWICE: a guard repeats an earlier one"
 abbrev pub proper-guards : Wiring → ℕ → List ℕ → List ℕ → Rule (Unit {0})

@@ -6,7 +6,7 @@ use mathlib.Core.Option.{Option, none, some}
 use lib.Dec.{eqb, leb, ltb}
 use lib.ListN.{length}
 use Rattle.rules.specs.Lists.{if_then_else_, within, all, total, from, distinct, bit, times, same-words}
-use Rattle.rules.specs.State.{Place, running, queued, asleep, ended, Way, sending, receiving, Stage, look, park, copy, clear, wake, enable-look, raise, place-name, ready-from-look, ready-from-place, wait, disable, lower, finish, go, sent, got, chose, Progress, nothing, doing, due, no-task, trigger, wake-up, Work, runs, free, Core, queues-of, ChannelWord, nobody, plain, choosing, Channel, State, Wiring, wiring, end-of}
+use Rattle.rules.specs.State.{Place, running, queued, asleep, ended, Way, sending, receiving, Stage, look, park, copy, clear, wake, enable-look, raise, place-name, ready-from-look, ready-from-place, wait, disable, lower, finish, go, sent, got, chose, Progress, nothing, doing, due, no-task, trigger, wake-up, Work, runs, free, Core, queues-of, ChannelWord, nobody, plain, choosing, Channel, State, Wiring, wiring, is-channel, may-use, users}
 use Rattle.rules.specs.Items.{process-of}
 use Rattle.rules.specs.SetUp.{sizes}
 use Rattle.rules.specs.Packing.{pack, view}
@@ -21,7 +21,7 @@ is-process w p = within 1 (w .N) p
 
 -- "each channel in a progress is one whose proper end that process is"
 abbrev pub own-end : Wiring → Way → ℕ → ℕ → Bool
-own-end w way p c = within 1 (length (w .ends)) c && eqb (end-of w way c) p
+own-end w way p c = is-channel w c && may-use w way p c
 
 -- "1 to 8 guards in a choice"; "guards are distinct"
 abbrev pub own-guards : Wiring → ℕ → List ℕ → Bool
@@ -102,7 +102,7 @@ stands cores queues ended = eqb cores 0 && eqb queues 0
 unfoldable pub valid-process : State → ℕ → Bool
 valid-process s p =
     let r = process-of s p in
-    word32 (r .data-word) && leb (r .alternation .count) 9 && valid-progress (wiring s) p (r .progress) && fits (r .place) (r .progress)
+    word32 (r .data-word) && leb (r .alternation .count) 9 && valid-progress (users s) p (r .progress) && fits (r .place) (r .progress)
     && stands (on-cores s p) (in-queues s p) (r .place)
 
 abbrev pub valid-work : Wiring → Work → Bool

@@ -4,8 +4,9 @@ use Prim.Native.Nat.{ℕ}
 use mathlib.Core.Bool.{Bool}
 use mathlib.Core.List.{List, _∷_, map}
 use mathlib.Core.Option.{Option}
+use lib.Dec.{eqb}
 use lib.ListN.{length}
-use Rattle.rules.specs.Lists.{nth}
+use Rattle.rules.specs.Lists.{nth, within}
 
 -- Process
 
@@ -117,3 +118,15 @@ at-end receiving e = e .reader
 
 abbrev pub end-of : Wiring → Way → ℕ → ℕ
 end-of w way c = at-end way (nth (w .ends) c (record { writer = 0; reader = 0 }))
+
+-- "a channel .. in 1 to M"
+abbrev pub is-channel : Wiring → ℕ → Bool
+is-channel w c = within 1 (length (w .ends)) c
+
+-- process p may use this end of channel c: it stands there
+abbrev pub may-use : Wiring → Way → (p c : ℕ) → Bool
+may-use w way p c = eqb (end-of w way c) p
+
+-- who may use the ends of each channel now: its writer and its reader
+abbrev pub users : State → Wiring
+users s = wiring s

@@ -1,4 +1,4 @@
--- Document 01, "Touched items": the list of a call, read off the state before it. The answer slice plays no part in it.
+-- Document 01, "Touched items": the list of a call, read off the state before it. What is lent for the answer plays no part in it.
 use Prim.Native.Nat.{ℕ, zero, suc}
 use mathlib.Core.List.{List, [], _∷_, _++_, map, flatMap}
 use lib.Dec.{ltb}
@@ -34,7 +34,7 @@ use Rattle.rules.specs.State.{
   Core,
   queues-of,
   State,
-  wiring,
+  users,
 }
 use Rattle.rules.specs.Items.{Kind, core, place, data-word, alternation, progress, channel-word, transfers, Item, core-of, process-of}
 use Rattle.rules.specs.Rule.{Ran, accepted, refused, run}
@@ -107,7 +107,7 @@ accepted-items c r (refused why) = []
 
 abbrev pub ask-items : State → ℕ → Core → Ask → List Item
 ask-items s k c the-step = work-items s c (c .work)
-ask-items s k c (a-request r) = accepted-items c r (run (request (wiring s) r k) s)
+ask-items s k c (a-request r) = accepted-items c r (run (request (users s) r k) s)
 
 -- "A call naming a core that doesn't exist touches nothing."
 unfoldable pub touched : State → ℕ → Ask → List Item

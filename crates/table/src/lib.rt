@@ -92,3 +92,28 @@ pub fn zero_process_words(t: &mut [u32], cores: usize, p: u32, f: usize, n: usiz
         n,
     );
 }
+
+// The words from `at` on become these.
+fn set_words(t: &mut [u32], at: usize, words: &[u32])
+    requires { ⌜ at + length (now words) ≤ length (now t) ⌝ }
+    ensures { λ r. ⌜ now (t .exit) ≡ sets (now (t .entry)) at (now (words .entry)) ⌝ }
+{
+    let mut i = 0;
+    while i < words.len() {
+        t[at + i] = words[i];
+        i += 1;
+    }
+}
+
+// The words of process p from its word f on become these.
+pub fn set_process_words(t: &mut [u32], cores: usize, p: u32, f: usize, words: &[u32])
+    requires { ⌜ (1 ≤ p) × (process-at cores p f + length (now words) ≤ length (now t)) ⌝ }
+    ensures { λ r. ⌜ now (t .exit) ≡ sets (now (t .entry)) (process-at cores p f) (now (words .entry)) ⌝ }
+{
+    let i = p as usize;
+    set_words(
+        t,
+        HEADER_SIZE + CORE_STRIDE * cores + PROCESS_STRIDE * (i - 1) + f,
+        words,
+    );
+}

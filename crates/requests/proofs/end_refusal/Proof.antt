@@ -3,7 +3,7 @@ use mathlib.Core.Path.{_≡_}
 use mathlib.Core.Bool.{true, false}
 use native.Mathlib.Omega.{arith}
 use lib.Dec.{eqb, leb}
-use borrow.Author.Tests.{eq-eqb, ne-eqb, le-leb, lt-leb}
+use borrow.Author.Tests.{le-leb, lt-leb}
 use borrow.Author.Needs.{needs}
 use Rattle.rules.specs.Layout.{channel-at}
 use Rattle.rules.specs.Packing.{word-at}
@@ -16,16 +16,15 @@ returns c =
     let low : leb 1 (a .c) ≡ false = lt-leb 1 (a .c) (omega arith) in
     rw low
 
-channel-word-requires : tie.Need-channel-word-requires
-channel-word-requires c κs = search needs
+may-use-requires : tie.Need-may-use-requires
+may-use-requires c κs = search needs
 
 returns-2 : tie.Need-returns-2
 returns-2 c =
     let a = c .before .before .before .before .before .args in
     let low : leb 1 (a .c) ≡ true = le-leb 1 (a .c) (omega arith) in
     let high : leb (a .c) (a .channels) ≡ true = le-leb (a .c) (a .channels) (omega arith) in
-    let owner = word-at (a .t .now) (channel-at (a .cores) (a .processes) (a .c) (a .f)) in
-    let own : eqb owner (a .p) ≡ true = eq-eqb owner (a .p) (omega arith) in
+    let own : eqb (word-at (a .t .now) (channel-at (a .cores) (a .processes) (a .c) (a .f))) (a .p) ≡ true = cc in
     rw (low, high, own)
 
 returns-3 : tie.Need-returns-3
@@ -33,8 +32,7 @@ returns-3 c =
     let a = c .before .before .before .before .before .args in
     let low : leb 1 (a .c) ≡ true = le-leb 1 (a .c) (omega arith) in
     let high : leb (a .c) (a .channels) ≡ true = le-leb (a .c) (a .channels) (omega arith) in
-    let owner = word-at (a .t .now) (channel-at (a .cores) (a .processes) (a .c) (a .f)) in
-    let own : eqb owner (a .p) ≡ false = ne-eqb owner (a .p) (omega arith) in
+    let own : eqb (word-at (a .t .now) (channel-at (a .cores) (a .processes) (a .c) (a .f))) (a .p) ≡ false = cc in
     rw (low, high, own)
 
 returns-4 : tie.Need-returns-4
@@ -45,4 +43,4 @@ returns-4 c =
     rw (low, high)
 
 pub end-refusal-spec : {M : Type 1} → statement M
-end-refusal-spec = tie.close (tie.spec returns channel-word-requires returns-2 returns-3 returns-4)
+end-refusal-spec = tie.close (tie.spec returns may-use-requires returns-2 returns-3 returns-4)

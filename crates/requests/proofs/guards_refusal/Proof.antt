@@ -4,6 +4,7 @@ use mathlib.Core.Path.{_≡_, refl, sym, _∙_}
 use mathlib.Core.List.{[]}
 use native.Mathlib.Omega.{arith}
 use lib.ListN.{length}
+use Rattle.rules.specs.Layout.{channel-reader}
 use Rattle.requests.specs.Asked.{end-refusal, guards-refusal}
 use Rattle.requests.proofs.Guards.{left, none-left, bad-end, twice, next-left}
 use Rattle.requests.proofs.guards_refusal.Statement.{statement}
@@ -11,7 +12,7 @@ use Rattle.requests.proofs.guards_refusal.Tie as tie
 
 abbrev Inv-loop : tie.InvT-loop
 Inv-loop t cores processes channels p guards i₀ i =
-    let end = end-refusal t cores processes channels p 1 in
+    let end = end-refusal t cores processes channels p channel-reader in
     (i ≤ length guards) × (guards-refusal end [] guards ≡ left end guards i)
 
 abbrev μ-loop : tie.MeasureT-loop
@@ -33,7 +34,7 @@ returns : tie.Need-returns Inv-loop μ-loop
 returns c =
     let now = c .before .before .before .before .loop in
     let a = c .before .before .before .before .before .before .before .args in
-    let end = end-refusal (a .t .now) (a .cores) (a .processes) (a .channels) (a .p) 1 in
+    let end = end-refusal (a .t .now) (a .cores) (a .processes) (a .channels) (a .p) channel-reader in
     let tested = c .before .end-refusal in
     sym (now .inv .1 ∙ bad-end end (a .guards .now) (now .i) (tested .result) (omega arith) (tested .ensures) (c .if1 .taken))
 
@@ -44,7 +45,7 @@ returns-2 : tie.Need-returns-2 Inv-loop μ-loop
 returns-2 c =
     let now = c .before .before .before .before .before .before .loop in
     let a = c .before .before .before .before .before .before .before .before .before .args in
-    let end = end-refusal (a .t .now) (a .cores) (a .processes) (a .channels) (a .p) 1 in
+    let end = end-refusal (a .t .now) (a .cores) (a .processes) (a .channels) (a .p) channel-reader in
     let tested = c .before .before .before .end-refusal in
     let stands = c .before .stands-before in
     sym (now .inv .1
@@ -61,7 +62,7 @@ loop-again : tie.Need-loop-again Inv-loop μ-loop
 loop-again c =
     let now = c .before .before .before .before .before .before .loop in
     let a = c .before .before .before .before .before .before .before .before .before .args in
-    let end = end-refusal (a .t .now) (a .cores) (a .processes) (a .channels) (a .p) 1 in
+    let end = end-refusal (a .t .now) (a .cores) (a .processes) (a .channels) (a .p) channel-reader in
     let tested = c .before .before .before .end-refusal in
     let stands = c .before .stands-before in (
       omega arith,
@@ -74,7 +75,7 @@ returns-3 : tie.Need-returns-3 Inv-loop μ-loop
 returns-3 c =
     let now = c .before .loop in
     let a = c .before .before .before .before .args in
-    let end = end-refusal (a .t .now) (a .cores) (a .processes) (a .channels) (a .p) 1 in
+    let end = end-refusal (a .t .now) (a .cores) (a .processes) (a .channels) (a .p) channel-reader in
     sym (now .inv .1 ∙ none-left end (a .guards .now) (now .i) (omega arith))
 
 pub guards-refusal-spec : {M : Type 1} → statement M

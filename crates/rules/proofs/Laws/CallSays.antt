@@ -1,5 +1,5 @@
 -- What each call and each set-up says, on any table and any arguments.
-use Prim.Native.Nat.{ℕ, _+_, _*_, _<_}
+use Prim.Native.Nat.{ℕ, _*_, _<_}
 use mathlib.Core.Path.{_≡_, refl}
 use mathlib.Core.Bool.{Bool, true, false, not, _&&_, _||_}
 use mathlib.Core.List.{List, [], _∷_}
@@ -7,11 +7,12 @@ use mathlib.Core.Option.{Option, none, some}
 use lib.Dec.{T, eqb, ltb, ltb→lt}
 use lib.ListN.{length}
 use Rattle.rules.specs.Lists.{if_then_else_, within}
-use Rattle.rules.specs.Numbers.{Answer, Refusal, SIZE, PAIRS, ROOM, NAME, SELF, ANSWER, DAMAGED, CORE}
-use Rattle.rules.specs.State.{running, runs, State, wiring}
+use Rattle.rules.specs.Numbers.{Answer, Refusal, SIZE, PAIRS, ROOM, NAME, SELF, ANSWER, DAMAGED, CORE, Lent, well-lent}
+use Rattle.rules.specs.State.{running, runs, State, users}
 use Rattle.rules.specs.Items.{core-of, process-of}
 use Rattle.rules.specs.Rule.{Ran, accepted, refused, run}
 use Rattle.rules.specs.SetUp.{ends-of, proper-pairs, set-up-refusal, set-up-state}
+use Rattle.rules.specs.Layout.{room}
 use Rattle.rules.specs.Packing.{view}
 use Rattle.rules.specs.Soundness.{fits, valid, sound}
 use Rattle.rules.specs.Calls.{Result, refusal, Ask, the-step, a-request, rule-of, outcome-of, call, built, set-up-call}
@@ -24,7 +25,7 @@ use Rattle.rules.proofs.Laws.StepSays.{work-says}
 use Rattle.rules.proofs.Laws.RequestSays.{requester-says}
 
 -- an outcome has the number of what the rule came to
-said-by : (t answer : List ℕ) (x : Ran Answer) → outcome-of t answer x .number ≡ said x
+said-by : (t : List ℕ) (answer : Lent) (x : Ran Answer) → outcome-of t answer x .number ≡ said x
 said-by t answer (accepted a s) = refl
 said-by t answer (refused why) = refl
 
@@ -34,23 +35,23 @@ module _ (s : State) (k : ℕ) (good : T (valid s)) (on : k < length (s .cores))
   has-running p e = let h = runs-there k (reflected s good) on p e in rw (is-running h) at (running-good h .fitting)
 
   -- whatever is asked
-  ask-says : (ask : Ask) → Says (answers-of ask) (said (run (rule-of (wiring s) ask k) s)) (ask-cases s (core-of s k .work) ask)
+  ask-says : (ask : Ask) → Says (answers-of ask) (said (run (rule-of (users s) ask k) s)) (ask-cases s (core-of s k .work) ask)
   ask-says the-step = work-says s k (core-of s k) (core-of s k .work) has-running
   ask-says (a-request r) = requester-says s k r (core-of s k .work)
 
-module _ (t answer : List ℕ) (k : ℕ) (ask : Ask) where
+module _ (t : List ℕ) (answer : Lent) (k : ℕ) (ask : Ask) where
   -- each call, on any table
   pub call-says : Says (answers-of ask) (call t answer k ask .number) (call-cases t answer k ask)
   unfolding call
   call-says =
-      by-tests (eqb (length answer) 3) (sound t) (ltb k (length (s .cores)))
+      by-tests (well-lent answer) (sound t) (ltb k (length (s .cores)))
       (λ good on. rw said-by (ask-says s k (sound-packs t good .good) (ltb→lt k (length (s .cores)) on) ask))
     where
       s : State
       s = view t
 
       own : Result
-      own = outcome-of t answer (run (rule-of (wiring s) ask k) s)
+      own = outcome-of t answer (run (rule-of (users s) ask k) s)
 
       later : List Case
       later = ask-cases s (core-of s k .work) ask
@@ -85,7 +86,7 @@ module _ (k n m : ℕ) (pairs table : List ℕ) where
   -- what is refused of a set-up
   set-up-refused : set-up-refusal k n m pairs (length table) ≡ first-given (set-up-cases k n m pairs table)
   set-up-refused =
-      by-tests (within 1 8 k) (within 1 256 n) (within 0 256 m) (eqb (length pairs) (2 * m)) (eqb (length table) (8 + 16 * k + 24 * n + 4 * m))
+      by-tests (within 1 8 k) (within 1 256 n) (within 0 256 m) (eqb (length pairs) (2 * m)) (eqb (length table) (room k n m))
     where
       later : List Case
       later = pair-cases n pairs

@@ -35,6 +35,7 @@ use Rattle.rules.specs.Numbers.{
   yes-with,
   no-because,
   number-of,
+  Lent,
 }
 use Rattle.rules.specs.State.{State}
 use Rattle.rules.specs.Rule.{Ran, accepted, refused}
@@ -74,7 +75,7 @@ refusal-listed TWICE = (tt, tt)
 refusal-listed FAULT = (tt, tt)
 
 -- whatever a rule comes to, the number returned is listed
-ran-listed : (t answer : List ℕ) (x : Ran Answer) → T (member (outcome-of t answer x .number) listed)
+ran-listed : (t : List ℕ) (answer : Lent) (x : Ran Answer) → T (member (outcome-of t answer x .number) listed)
 ran-listed t answer (accepted a s) = answer-listed a .0
 ran-listed t answer (refused why) = refusal-listed why .0
 

@@ -7,8 +7,8 @@ use mathlib.Core.Logic.{_⊎_, inl, inr}
 use native.Mathlib.Omega.{arith}
 use lib.Dec.{T, ltb}
 use lib.ListN.{length, List·getD-eq-default}
-use borrow.Author.Tests.{eq-eqb, lt-ltb, ltb-true, ltb-false}
-use Rattle.rules.specs.Numbers.{Answer}
+use borrow.Author.Tests.{lt-ltb, ltb-true, ltb-false}
+use Rattle.rules.specs.Numbers.{Answer, well-lent}
 use Rattle.rules.specs.State.{
   Way,
   sending,
@@ -240,5 +240,5 @@ only-copy-counts = record {
       let s = view t in
       let here = core-there s k (x .process) (x .running) in
       table-has d c _ t (rw (x .steps) tt) h
-      (rw (eq-eqb (length answer) 3 long, lt-ltb k (length (s .cores)) here) (step-counts s k ask c (sound-packs t h .good) x));
+      (rw (holds (well-lent answer) long, lt-ltb k (length (s .cores)) here) (step-counts s k ask c (sound-packs t h .good) x));
 }

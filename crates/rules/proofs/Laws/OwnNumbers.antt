@@ -4,7 +4,7 @@ use mathlib.Core.Bool.{Bool, true, false, _&&_}
 use mathlib.Core.List.{List, [], _∷_, _++_}
 use lib.Dec.{T, eqb}
 use Rattle.rules.specs.Lists.{member}
-use Rattle.rules.specs.Numbers.{refusal-number}
+use Rattle.rules.specs.Numbers.{refusal-number, Lent}
 use Rattle.rules.specs.State.{Progress, nothing, doing, due, Work, runs, free, State}
 use Rattle.rules.specs.Items.{core-of, process-of}
 use Rattle.rules.specs.Requests.{Request, send, receive, choose, yield, end}
@@ -83,7 +83,7 @@ step-own : (s : State) (w : Work) → T (among (25 ∷ 26 ∷ 27 ∷ 29 ∷ 34 �
 step-own s (runs p) = running-own s p (process-of s p .progress)
 step-own s (free t) = faults-own s (task-deeds t)
 
-module _ (t answer : List ℕ) (k : ℕ) where
+module _ (t : List ℕ) (answer : Lent) (k : ℕ) where
   -- a request that has some refusals more than every request
   request-own : (r : Request) (more : List ℕ) → ((s : State) (p : ℕ) → T (among (25 ∷ 26 ∷ 27 ∷ 28 ∷ more) (asked-cases s p r)))
       → T (member (call t answer k (a-request r) .number) (1 ∷ 25 ∷ 26 ∷ 27 ∷ 28 ∷ more))

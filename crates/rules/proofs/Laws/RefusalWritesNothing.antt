@@ -6,7 +6,7 @@ use mathlib.Core.List.{List}
 use mathlib.Core.Option.{Option, none, some}
 use lib.Dec.{ltb→lt}
 use lib.ListN.{length}
-use Rattle.rules.specs.Numbers.{Answer, Refusal, yes-with, number-of}
+use Rattle.rules.specs.Numbers.{Answer, Refusal, yes-with, number-of, Lent}
 use Rattle.rules.specs.State.{State}
 use Rattle.rules.specs.Rule.{Ran, accepted, refused}
 use Rattle.rules.specs.SetUp.{set-up-refusal, set-up-state}
@@ -15,8 +15,8 @@ use Rattle.rules.specs.Claims.{RefusalWritesNothing}
 use Rattle.rules.proofs.Laws.Whole.{comes-to, called}
 use Rattle.rules.proofs.Laws.ListedNumber.{answer-listed}
 
--- an outcome with a refusal's number leaves the answer slice and the table
-ran-untouched : (t answer : List ℕ) (x : Ran Answer) → 20 ≤ outcome-of t answer x .number
+-- an outcome with a refusal's number leaves what was lent and the table
+ran-untouched : (t : List ℕ) (answer : Lent) (x : Ran Answer) → 20 ≤ outcome-of t answer x .number
     → (outcome-of t answer x .answer ≡ answer) × (outcome-of t answer x .table ≡ t)
 ran-untouched t answer (accepted a s) h = absurd (omega (arith, ltb→lt (number-of (yes-with a)) 20 (answer-listed a .1)))
 ran-untouched t answer (refused why) h = (refl, refl)
@@ -26,7 +26,7 @@ built-untouched : (t : List ℕ) (s : State) (o : Option Refusal) → 20 ≤ bui
 built-untouched t s none h = absurd (omega arith)
 built-untouched t s (some why) h = refl
 
--- A call or a set-up that returns a refusal's number leaves the answer slice and the table as they were.
+-- A call or a set-up that returns a refusal's number leaves what was lent and the table as they were.
 pub refusal-writes-nothing : RefusalWritesNothing
 unfolding set-up-call
 refusal-writes-nothing = record {

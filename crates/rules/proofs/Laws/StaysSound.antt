@@ -7,7 +7,7 @@ use mathlib.Core.List.{List}
 use mathlib.Core.Option.{Option, none, some}
 use lib.Dec.{T, leb→le}
 use lib.ListN.{length}
-use Rattle.rules.specs.Numbers.{Answer, Refusal, no-because, number-of}
+use Rattle.rules.specs.Numbers.{Answer, Refusal, no-because, number-of, Lent}
 use Rattle.rules.specs.State.{State, wiring}
 use Rattle.rules.specs.Rule.{Ran, accepted, refused, run}
 use Rattle.rules.specs.Packing.{pack}
@@ -30,7 +30,7 @@ leaves-packing c {s = s} {a = a} {s′ = s′} small h =
     (λ there e. record { good = stays-valid s (c .core) (c .ask) a s′ small (h .good) there e; packed = refl })
 
 -- an outcome on a sound table leaves it sound, if what is accepted does
-ran-sound : (t answer : List ℕ) (x : Ran Answer) → T (sound t) → ((a : Answer) (s : State) → x ≡ accepted a s → T (sound (pack s)))
+ran-sound : (t : List ℕ) (answer : Lent) (x : Ran Answer) → T (sound t) → ((a : Answer) (s : State) → x ≡ accepted a s → T (sound (pack s)))
     → T (sound (outcome-of t answer x .table))
 ran-sound t answer (accepted a s) h keeps = keeps a s refl
 ran-sound t answer (refused why) h keeps = h

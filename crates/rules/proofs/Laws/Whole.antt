@@ -3,10 +3,10 @@ use Prim.Native.Nat.{ℕ, _<_}
 use mathlib.Core.Path.{_≡_, refl, ap, _∙_}
 use mathlib.Core.Bool.{Bool, true, false}
 use mathlib.Core.List.{List}
-use lib.Dec.{T, eqb, ltb, ltb→lt}
+use lib.Dec.{T, ltb, ltb→lt}
 use lib.ListN.{length}
 use Rattle.rules.specs.Lists.{if_then_else_}
-use Rattle.rules.specs.Numbers.{Answer, Refusal, ANSWER, DAMAGED, CORE}
+use Rattle.rules.specs.Numbers.{Answer, Refusal, ANSWER, DAMAGED, CORE, Lent, well-lent}
 use Rattle.rules.specs.State.{State, Wiring, wiring}
 use Rattle.rules.specs.Rule.{Rule, refuse, Ran, run}
 use Rattle.rules.specs.Packing.{pack, view}
@@ -22,19 +22,19 @@ guarded long is-sound there refuses own =
 
 -- the whole rule of a call, on a table that is sound or isn't
 abbrev pub whole : Bool → Call → Wiring → Rule Answer
-whole is-sound c w = guarded (eqb (length (c .answer)) 3) is-sound (ltb (c .core) (w .K)) refuse (rule-of w (c .ask) (c .core))
+whole is-sound c w = guarded (well-lent (c .answer)) is-sound (ltb (c .core) (w .K)) refuse (rule-of w (c .ask) (c .core))
 
 -- what holds of every refusal, and of the call's own rule where its core is there, holds of the whole rule on a sound table
 pub whole-by : (c : Call) (w : Wiring) (P : Rule Answer → Type 0) → ((why : Refusal) → P (refuse why))
     → (c .core < w .K → P (rule-of w (c .ask) (c .core))) → P (whole true c w)
-whole-by c w P refuses own = go (eqb (length (c .answer)) 3) (ltb (c .core) (w .K)) (ltb→lt (c .core) (w .K))
+whole-by c w P refuses own = go (well-lent (c .answer)) (ltb (c .core) (w .K)) (ltb→lt (c .core) (w .K))
   where
     go : (long there : Bool) → (T there → c .core < w .K) → P (guarded long true there refuse (rule-of w (c .ask) (c .core)))
     go true true h = own (h tt)
     go true false h = refuses CORE
     go false there h = refuses ANSWER
 
-module _ (t answer : List ℕ) (k : ℕ) (ask : Ask) where
+module _ (t : List ℕ) (answer : Lent) (k : ℕ) (ask : Ask) where
   -- what a call comes to, on any table
   abbrev pub comes-to : Ran Answer
   comes-to = run (whole (sound t) (record { core = k; ask = ask; answer = answer }) (wiring (view t))) (view t)
@@ -42,7 +42,7 @@ module _ (t answer : List ℕ) (k : ℕ) (ask : Ask) where
   -- a call's result is the outcome of its whole rule
   pub called : call t answer k ask ≡ outcome-of t answer comes-to
   unfolding call
-  called = go (eqb (length answer) 3) (sound t) (ltb k (length (view t .cores)))
+  called = go (well-lent answer) (sound t) (ltb k (length (view t .cores)))
     where
       -- the call's own rule
       own : Rule Answer

@@ -3,7 +3,7 @@ use Prim.Native.Nat.{ℕ}
 use mathlib.Core.Bool.{Bool, true, false}
 use mathlib.Core.List.{List, [], _∷_, _++_}
 use Rattle.rules.specs.Numbers.{Answer, MOVED, SLEPT, Refusal}
-use Rattle.rules.specs.State.{Place, queued, asleep, ended, Stage, go, Progress, nothing, doing, due, Alternation, Process, Task, no-task, Work, runs, free, Core, ChannelWord, nobody, Channel, State, wiring, running}
+use Rattle.rules.specs.State.{Place, queued, asleep, ended, Stage, go, Progress, nothing, doing, due, Alternation, Process, Task, no-task, Work, runs, free, Core, ChannelWord, nobody, Channel, State, users, running}
 use Rattle.rules.specs.Items.{Kind, core, place, data-word, progress, channel-word, Item, Val, no-alternation, put}
 use Rattle.rules.specs.Rule.{Ran, accepted, refused, run}
 use Rattle.rules.specs.Soundness.{valid}
@@ -129,7 +129,7 @@ comes-to s (refused-for why) = refused why
 abbrev pub seen : Example → Seen
 seen e =
     let s = changed card (e .given) in
-    record { fit = valid s; ran = run (rule-of (wiring s) (e .ask) (e .on)) s; items = touched s (e .on) (e .ask) }
+    record { fit = valid s; ran = run (rule-of (users s) (e .ask) (e .on)) s; items = touched s (e .on) (e .ask) }
 
 abbrev pub said : Example → Seen
 said e = let s = changed card (e .given) in record { fit = true; ran = comes-to s (e .outcome); items = e .items }

@@ -4,12 +4,14 @@ use mathlib.Core.Bool.{false}
 use mathlib.Core.List.{List, [], _∷_, _++_, map}
 use mathlib.Core.Option.{some}
 use lib.ListN.{replicate}
+use Rattle.rules.specs.Numbers.{lends}
 use Rattle.rules.specs.State.{running, queued, sending, receiving, look, park, wake, finish, Progress, nothing, doing, no-task, runs, free}
 use Rattle.rules.specs.Items.{core, place, progress, alternation}
 use Rattle.rules.specs.Requests.{Request, send, receive, choose, yield, end}
 use Rattle.rules.specs.Layout.{room}
 use Rattle.rules.specs.Packing.{pack}
 use Rattle.rules.specs.Calls.{Result, Ask, the-step, a-request, call, set-up-call}
+use Rattle.rules.specs.BenchSheet.{zeros}
 use Rattle.rules.specs.Examples.Card.{Change, _of_is_, changed, a-core, alternating}
 use Rattle.rules.specs.Examples.Bounds.{sized}
 
@@ -20,19 +22,16 @@ table l = pack (changed (sized 1 2 1) l)
 abbrev pub runs-with : ℕ → Progress → List Change
 runs-with p x = core of 0 is a-core (runs p) [] 0 false [] ∷ place of p is running ∷ progress of p is x ∷ []
 
-abbrev pub three : List ℕ
-three = 0 ∷ 0 ∷ 0 ∷ []
-
 abbrev pub numbers : List Result → List ℕ
 numbers l = map (λ (r : Result). r .number) l
 
 -- ANSWER, DAMAGED, CORE
 abbrev pub first-refusals : Ask → List Result
-first-refusals a = call (table []) [] 0 a ∷ call [] three 0 a ∷ call (table []) three 1 a ∷ []
+first-refusals a = call (table []) (lends []) 0 a ∷ call [] zeros 0 a ∷ call (table []) zeros 1 a ∷ []
 
 -- what process p, with this in hand, gets on core 0
 abbrev pub step-of : ℕ → Progress → Result
-step-of p x = call (table (runs-with p x ++ (alternation of p is alternating false false false 1 ∷ []))) three 0 the-step
+step-of p x = call (table (runs-with p x ++ (alternation of p is alternating false false false 1 ∷ []))) zeros 0 the-step
 
 abbrev pub one-queued : List Change
 one-queued = core of 0 is a-core (free no-task) (1 ∷ []) 1 false [] ∷ place of 1 is queued ∷ []
@@ -40,18 +39,18 @@ one-queued = core of 0 is a-core (free no-task) (1 ∷ []) 1 false [] ∷ place 
 abbrev pub step-results : List ℕ
 step-results =
     numbers
-    (step-of 1 (doing (look sending 1)) ∷ step-of 1 (doing (park sending 1)) ∷ call (table []) three 0 the-step
-    ∷ call (table one-queued) three 0 the-step ∷ step-of 1 (doing (wake sending 1 2)) ∷ step-of 2 (doing (wake receiving 1 1))
+    (step-of 1 (doing (look sending 1)) ∷ step-of 1 (doing (park sending 1)) ∷ call (table []) zeros 0 the-step
+    ∷ call (table one-queued) zeros 0 the-step ∷ step-of 1 (doing (wake sending 1 2)) ∷ step-of 2 (doing (wake receiving 1 1))
     ∷ step-of 2 (doing (finish (1 ∷ []) (some 1))) ∷ [])
     ++ numbers (first-refusals the-step ++ (step-of 1 nothing ∷ step-of 1 (doing (wake sending 1 1)) ∷ []))
 
 -- what p, with nothing in hand, gets for a request
 abbrev pub asks : ℕ → Request → Result
-asks p r = call (table (runs-with p nothing)) three 0 (a-request r)
+asks p r = call (table (runs-with p nothing)) zeros 0 (a-request r)
 
 -- TAKEN, the first refusals, BUSY, and then others
 abbrev pub request-results : ℕ → Request → List Result → List ℕ
-request-results p r others = numbers (asks p r ∷ first-refusals (a-request r) ++ (call (table []) three 0 (a-request r) ∷ others))
+request-results p r others = numbers (asks p r ∷ first-refusals (a-request r) ++ (call (table []) zeros 0 (a-request r) ∷ others))
 
 abbrev pub send-results : List ℕ
 send-results = request-results 1 (send 1 7) (asks 1 (send 2 7) ∷ asks 2 (send 1 7) ∷ [])

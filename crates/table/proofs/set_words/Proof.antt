@@ -7,8 +7,8 @@ use native.Mathlib.Nat.{add-zero}
 use native.Mathlib.Omega.{arith}
 use lib.ListN.{length, getD, set, drop, length-set}
 use lib.Seq.{sets, drop-cons, drop-length}
-use Rattle.requests.proofs.copy_words.Statement.{statement}
-use Rattle.requests.proofs.copy_words.Tie as tie
+use Rattle.table.proofs.set_words.Statement.{statement}
+use Rattle.table.proofs.set_words.Tie as tie
 
 -- one word more is written
 next-word : (t words : List ℕ) (at i : ℕ) → i < length words
@@ -69,8 +69,8 @@ returns c =
     let a = c .before .before .args in
     sym (now .inv .2 ∙ no-word (now .t) (a .words .now) (a .at) (now .i) (omega arith))
 
-pub copy-words-spec : {M : Type 1} → statement M
-copy-words-spec =
+pub set-words-spec : {M : Type 1} → statement M
+set-words-spec =
     tie.close
     (tie.spec
     Inv-loop

@@ -8,11 +8,11 @@ use lib.ListN.{length, length-map, List·getD-map}
 use borrow.Author.Tests.{eq-eqb, ne-eqb}
 use Rattle.rules.specs.Lists.{within}
 use Rattle.rules.specs.Numbers.{Answer, CHANNEL, OTHER-END}
-use Rattle.rules.specs.State.{Way, sending, receiving, Channel, State, Wiring, wiring, at-end, end-of}
+use Rattle.rules.specs.State.{Way, sending, receiving, Channel, State, Wiring, at-end, end-of, is-channel, may-use, users}
 use Rattle.rules.specs.Items.{no-channel, channel-of}
 use Rattle.rules.specs.Rule.{Rule, Ran, run, _>>_}
 use Rattle.rules.specs.Requests.{unless, proper-end}
-use Rattle.rules.specs.Layout.{channel-at}
+use Rattle.rules.specs.Layout.{channel-at, channel-writer, channel-reader}
 use Rattle.rules.specs.Packing.{view, word-at, M-of}
 use Rattle.rules.proofs.Tests.{within-means}
 use Rattle.answers.specs.declared.Reply.{Reply}
@@ -52,50 +52,50 @@ module _ (t : List ℕ) (s : State) (q : Rule Answer) where
 
 -- the number of a refusal by the rules
 abbrev pub end-asked : Wiring → Way → ℕ → ℕ → ℕ
-end-asked w way p c = end-number (within 1 (length (w .ends)) c) (eqb (end-of w way c) p)
+end-asked w way p c = end-number (is-channel w c) (may-use w way p c)
 
 pub end-checked : (t : List ℕ) (s : State) (q : Rule Answer) (w : Wiring) (way : Way) (p c : ℕ)
     → Checked t (end-asked w way p c) (run (proper-end w way p c >> q) s) (run q s)
-end-checked t s q w way p c = end-tests t s q (within 1 (length (w .ends)) c) (eqb (end-of w way c) p)
+end-checked t s q w way p c = end-tests t s q (is-channel w c) (may-use w way p c)
 
 -- The table
 
 -- the word of a channel's end
 abbrev pub end-word : Way → ℕ
-end-word sending = 0
-end-word receiving = 1
+end-word sending = channel-writer
+end-word receiving = channel-reader
 
 module _ (t : List ℕ) (cores processes channels k : ℕ) (card : Card t cores processes k) (all-channels : channels ≡ M-of t) where
   pub channels-are : channels ≡ length (view t .channels)
   channels-are = all-channels ∙ M-is t (card .is-sound)
 
   -- an end of a channel of the state
-  end-viewed : (way : Way) (c : ℕ) → end-of (wiring (view t)) way c ≡ at-end way (channel-of (view t) c .ends)
+  end-viewed : (way : Way) (c : ℕ) → end-of (users (view t)) way c ≡ at-end way (channel-of (view t) c .ends)
   end-viewed way zero = refl
   end-viewed way (suc i) = ap (at-end way) (List·getD-map (λ (x : Channel). x .ends) (view t .channels) i no-channel)
 
   end-read : (way : Way) (c : ℕ) → 1 ≤ c → c ≤ length (view t .channels)
-      → word-at t (channel-at cores processes c (end-word way)) ≡ end-of (wiring (view t)) way c
+      → word-at t (channel-at cores processes c (end-word way)) ≡ end-of (users (view t)) way c
   end-read way c low high =
       at-way way ∙ sym (end-viewed way c)
     where
       at-way : (way : Way) → word-at t (channel-at cores processes c (end-word way)) ≡ at-end way (channel-of (view t) c .ends)
-      at-way sending = channel-read (card-packs card) c (low, high) 0 (lit< tt)
-      at-way receiving = channel-read (card-packs card) c (low, high) 1 (lit< tt)
+      at-way sending = channel-read (card-packs card) c (low, high) channel-writer (lit< tt)
+      at-way receiving = channel-read (card-packs card) c (low, high) channel-reader (lit< tt)
 
   -- the code's test of a channel's end is the rules'
-  pub end-same : (way : Way) (p c : ℕ) → end-refusal t cores processes channels p (end-word way) c ≡ end-asked (wiring (view t)) way p c
+  pub end-same : (way : Way) (p c : ℕ) → end-refusal t cores processes channels p (end-word way) c ≡ end-asked (users (view t)) way p c
   end-same way p c =
       ap (λ (m : ℕ). end-number (within 1 m c) (eqb (word-at t (channel-at cores processes c (end-word way))) p)) same-number
-      ∙ cases (within 1 (length (wiring (view t) .ends)) c) refl
+      ∙ cases (is-channel (users (view t)) c) refl
     where
-      same-number : channels ≡ length (wiring (view t) .ends)
+      same-number : channels ≡ length (users (view t) .ends)
       same-number = channels-are ∙ sym (length-map (view t .channels) (λ (x : Channel). x .ends))
 
-      cases : (known : Bool) → within 1 (length (wiring (view t) .ends)) c ≡ known
+      cases : (known : Bool) → is-channel (users (view t)) c ≡ known
           → end-number known (eqb (word-at t (channel-at cores processes c (end-word way))) p)
-          ≡ end-number known (eqb (end-of (wiring (view t)) way c) p)
+          ≡ end-number known (may-use (users (view t)) way p c)
       cases false e = refl
       cases true e =
-          let range = within-means 1 (length (wiring (view t) .ends)) c (subst T (sym e) tt) in
+          let range = within-means 1 (length (users (view t) .ends)) c (subst T (sym e) tt) in
           ap (λ (n : ℕ). end-number true (eqb n p)) (end-read way c (range .0) (rw length-map at (range .1)))

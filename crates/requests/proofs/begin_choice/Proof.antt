@@ -1,0 +1,32 @@
+use borrow.Author.Needs.{needs}
+use Rattle.requests.proofs.begin_choice.Statement.{statement}
+use Rattle.requests.proofs.begin_choice.Tie as tie
+
+set-process-word-requires : tie.Need-set-process-word-requires
+set-process-word-requires c κs = search needs
+
+set-process-word-requires-2 : tie.Need-set-process-word-requires-2
+set-process-word-requires-2 c κs = search needs
+
+set-process-word-requires-3 : tie.Need-set-process-word-requires-3
+set-process-word-requires-3 c κs = search needs
+
+set-process-word-requires-4 : tie.Need-set-process-word-requires-4
+set-process-word-requires-4 c κs = search needs
+
+same-length : tie.Need-same-length
+same-length c = search needs
+
+returns : tie.Need-returns
+returns c = cc
+
+pub begin-choice-spec : {M : Type 1} → statement M
+begin-choice-spec =
+    tie.close
+    (tie.spec
+    set-process-word-requires
+    set-process-word-requires-2
+    set-process-word-requires-3
+    set-process-word-requires-4
+    same-length
+    returns)
