@@ -7,7 +7,7 @@ use lib.ListN.{getD, set}
 use Rattle.rules.specs.Numbers.{Answer, FAULT, yes-with, no-because}
 use Rattle.rules.specs.State.{Place, Way, sending, receiving, wake, nothing, State}
 use Rattle.rules.specs.Items.{process-of, put, progress}
-use Rattle.rules.specs.Layout.{process-at}
+use Rattle.rules.specs.Layout.{process-at, process-place, process-data, place-queued, place-asleep}
 use Rattle.rules.specs.Packing.{view, place-number}
 use Rattle.rules.specs.Rule.{Ran, accepted, run, _>>_}
 use Rattle.rules.specs.Steps.{must-sleep, joins, outcome, reports, wake-step}
@@ -36,25 +36,25 @@ module _ {t : List ℕ} {cores processes k p c q : ℕ} {w : Way} (at : At t cor
       → Comes (run (must-sleep x >> joins k q >> reports p (outcome w c)) (view t)) t r v → Does (wake-step k p w c q) t r v
   place-decides r v e d = subst (λ (y : Place). Comes (run (must-sleep y >> joins k q >> reports p (outcome w c)) (view t)) t r v) (sym e) d
 
-  module _ {n : ℕ} (read : n ≡ getD t (process-at cores q 0) 0) where
+  module _ {n : ℕ} (read : n ≡ getD t (process-at cores q process-place) 0) where
     place-is : place-number (process-of (view t) q .place) ≡ n
-    place-is = sym (read ∙ process-read (at-wake at .0 .packs) q (at-wake at .1 .is-process) 0 (lit< tt))
+    place-is = sym (read ∙ process-read (at-wake at .0 .packs) q (at-wake at .1 .is-process) process-place (lit< tt))
 
     -- the partner isn't asleep
-    pub wake-faults : (n ≡ 3 → ⊥) → {r : Reply} → r ≡ four (no-because FAULT) → Does (wake-step k p w c q) t r t
+    pub wake-faults : (n ≡ place-asleep → ⊥) → {r : Reply} → r ≡ four (no-because FAULT) → Does (wake-step k p w c q) t r t
     wake-faults awake {r} reply =
         subst (λ (x : Ran Answer). Comes x t r t)
         (sym (awake-refused (process-of (view t) q .place) (λ e. awake (sym place-is ∙ e)) (joins k q) (reports p (outcome w c)) (view t)))
         (reply, refl)
 
     -- it joins the active queue, and the outcome is reported
-    pub wake-reports : n ≡ 3 → {u : List ℕ} {m : ℕ} → u ≡ push-table (set t (process-at cores q 0) 2) cores k q → m ≡ due-of w
-        → {r : Reply} {v : List ℕ} → r ≡ four (yes-with (reported m p c (getD u (process-at cores p 1) 0))) → v ≡ cleared u cores p
+    pub wake-reports : n ≡ place-asleep → {u : List ℕ} {m : ℕ} → u ≡ push-table (set t (process-at cores q process-place) place-queued) cores k q → m ≡ due-of w
+        → {r : Reply} {v : List ℕ} → r ≡ four (yes-with (reported m p c (getD u (process-at cores p process-data) 0))) → v ≡ cleared u cores p
         → Does (wake-step k p w c q) t r v
     wake-reports sleeps {u} pushed number {r} {v} reply written =
         place-decides r v (sleeper (process-of (view t) q .place) (place-is ∙ sleeps))
         (subst (λ (x : Ran Answer). Comes x t r v) (sym (report-runs p w c after))
-        (rw (number, process-read woken p is 1 (lit< tt)) at reply, written ∙ progress-cleared woken p is .is-pack))
+        (rw (number, process-read woken p is process-data (lit< tt)) at reply, written ∙ progress-cleared woken p is .is-pack))
       where
         after : State
         after = with-joined k q (view t)

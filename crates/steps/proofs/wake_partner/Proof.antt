@@ -7,7 +7,7 @@ use Rattle.steps.proofs.wake_partner.Statement.{statement}
 use Rattle.steps.proofs.wake_partner.Tie as tie
 
 process-word-requires : tie.Need-process-word-requires
-process-word-requires c κs = let partner = at-wake (c .before .before .pre) .1 in (partner .process .from-one, partner .process .word-0)
+process-word-requires c κs = let partner = at-wake (c .before .before .pre) .1 in omega arith
 
 refused-requires : tie.Need-refused-requires
 refused-requires c κs = search needs
