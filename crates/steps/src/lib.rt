@@ -14,6 +14,7 @@ ghost use Rattle.parts.specs.Does.{At, Does, of-way};
 ghost use Rattle.parts.specs.Ways.{which};
 ghost use Rattle.parts.specs.Shared.{asleep-table};
 ghost use Rattle.steps.specs.Outcomes.{due-of, copied};
+ghost use Rattle.steps.specs.Wakes.{CanWake, Wakes};
 use answers::Reply;
 use parts::Way;
 use words::Holder;
@@ -177,7 +178,20 @@ pub fn clear_word(
     goes_on(t, cores, p, way, layout::AT_SEND_WAKE)
 }
 
-// Wake: the partner, who must be asleep, goes to the end of this core's active queue; answer SENT or GOT.
+// Core k wakes process q, who must be asleep: it goes to the end of this core's active queue. Whether it was asleep.
+pub fn wakes(t: &mut [u32], cores: usize, processes: usize, k: usize, q: u32) -> bool
+    requires { ⌜ CanWake (now t) cores processes k q ⌝ }
+    ensures { λ r. ⌜ Wakes (now (t .entry)) k q r (now (t .exit)) ⌝ }
+{
+    let place = table::process_word(t, cores, q, layout::PROCESS_PLACE);
+    if place != layout::PLACE_ASLEEP {
+        return false;
+    }
+    queues::join(t, cores, k, q);
+    true
+}
+
+// Wake: the core wakes the partner; answer SENT or GOT.
 pub fn wake_partner(
     t: &mut [u32],
     cores: usize,
@@ -191,11 +205,9 @@ pub fn wake_partner(
     requires { ⌜ At (now t) cores processes k p (wake (which way) c q) ⌝ }
     ensures { λ r. ⌜ Does (wake-step k p (which way) c q) (now (t .entry)) r (now (t .exit)) ⌝ }
 {
-    let place = table::process_word(t, cores, q, layout::PROCESS_PLACE);
-    if place != layout::PLACE_ASLEEP {
-        return answers::refused(answers::FAULT);
+    if wakes(t, cores, processes, k, q) {
+        let number = due_number(way);
+        return parts::reports(t, cores, p, number, c);
     }
-    queues::join(t, cores, k, q);
-    let number = due_number(way);
-    parts::reports(t, cores, p, number, c)
+    answers::refused(answers::FAULT)
 }
