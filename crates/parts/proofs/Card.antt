@@ -18,7 +18,6 @@ use Rattle.rules.proofs.Packing.Reading.{header-of-pack}
 use Rattle.packing.specs.Queues.{Queued}
 use Rattle.packing.proofs.Queued.{valid-queued}
 use Rattle.table.specs.Has.{HasCore, HasProcess, HasChannel}
-use Rattle.table.proofs.Has.{has-core, has-process, has-channel}
 use Rattle.parts.specs.Does.{Card, At}
 
 module _ (t : List ℕ) (sure : T (sound t)) where
@@ -57,14 +56,13 @@ module _ (t : List ℕ) (cores processes k : ℕ) (card : Card t cores processes
 
   -- the words of the core, of a process and of a channel are in the table
   pub card-core : HasCore t k
-  card-core = has-core t k (let e = cores-are in let l = length-is t (card .is-sound) in let h = card .inside in omega arith)
+  card-core = omega (arith, cores-are, length-is t (card .is-sound), card .inside)
 
   pub card-process : (p : ℕ) → 1 ≤ p → p ≤ length (view t .processes) → HasProcess t cores p
-  card-process p low high = has-process t cores p low (let e = cores-are in let l = length-is t (card .is-sound) in omega arith)
+  card-process p low high = omega (arith, cores-are, length-is t (card .is-sound))
 
   pub card-channel : (c : ℕ) → 1 ≤ c → c ≤ length (view t .channels) → HasChannel t cores processes c
-  card-channel c low high =
-      has-channel t cores processes c low (let e = cores-are in let f = processes-are in let l = length-is t (card .is-sound) in omega arith)
+  card-channel c low high = omega (arith, cores-are, processes-are, length-is t (card .is-sound))
 
 module _ {t : List ℕ} {cores processes k : ℕ} (card : Card t cores processes k) where
   -- the core is one of the state's, and the queues are in order

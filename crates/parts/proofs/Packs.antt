@@ -1,5 +1,5 @@
 -- A table that packs a state: what is read of it, and the state that it packs after a write.
-use Prim.Native.Nat.{ℕ, _+_, _≤_, _<_}
+use Prim.Native.Nat.{ℕ, _+_, _-_, _≤_, _<_}
 use mathlib.Core.Path.{_≡_, refl, sym, ap, _∙_, subst, subst₂}
 use mathlib.Core.Bool.{Bool, true, false}
 use mathlib.Core.List.{List, [], _∷_, _++_}
@@ -8,7 +8,7 @@ use lib.Dec.{T, lit<}
 use lib.ListN.{length, getD, set, length-set, replicate}
 use Rattle.rules.specs.State.{Place, asleep, Alternation, Progress, nothing, Process, Task, free, ChannelWord, State, wiring}
 use Rattle.rules.specs.Items.{Kind, core, place, data-word, alternation, progress, channel-word, transfers, Val, core-of, process-of, channel-of, put}
-use Rattle.rules.specs.Layout.{core-at, process-at, channel-at}
+use Rattle.rules.specs.Layout.{core-stride, process-stride, channel-stride, core-at, process-at, channel-at, core-runs, core-task, core-task-process, core-first, process-place, process-data, process-enabling, process-progress, progress-size, channel-holder, channel-transfers}
 use Rattle.rules.specs.Packing.{pack, view, place-number, word-number, word-numbered, work-words, progress-words}
 use Rattle.rules.specs.Steps.{with-work}
 use Rattle.rules.proofs.Laws.Frame.{put-other}
@@ -81,55 +81,55 @@ module _ {t : List ℕ} {cores processes : ℕ} {s : State} (packs : Packs t cor
 
   module _ (c : ℕ) (is : IsChannel s c) where
     -- a word, as a list's entry that computes
-    pub channel-read : (f : ℕ) → f < 4 → getD t (channel-at cores processes c f) 0 ≡ getD (channel-list (channel-of s c)) f 0
+    pub channel-read : (f : ℕ) → f < channel-stride → getD t (channel-at cores processes c f) 0 ≡ getD (channel-list (channel-of s c)) f 0
     channel-read f b = rw (packs .is-pack, packs .all-cores, packs .all-processes) (read-channel s c f (is .0) (is .1) b)
 
-    pub word-written : (w : ChannelWord) → Packs (set t (channel-at cores processes c 2) (word-number w)) cores processes (put channel-word c w s)
+    pub word-written : (w : ChannelWord) → Packs (set t (channel-at cores processes c channel-holder) (word-number w)) cores processes (put channel-word c w s)
     word-written w = still refl refl (rw (packs .is-pack, packs .all-cores, packs .all-processes) (put-channel-word s c (is .0) (is .1) w))
 
-    pub transfers-written : (n : ℕ) → Packs (set t (channel-at cores processes c 3) n) cores processes (put transfers c n s)
+    pub transfers-written : (n : ℕ) → Packs (set t (channel-at cores processes c channel-transfers) n) cores processes (put transfers c n s)
     transfers-written n = still refl refl (rw (packs .is-pack, packs .all-cores, packs .all-processes) (put-transfers s c (is .0) (is .1) n))
 
   -- Processes
 
   module _ (p : ℕ) (is : IsProcess s p) where
-    pub process-read : (f : ℕ) → f < 24 → getD t (process-at cores p f) 0 ≡ getD (process-list s p) f 0
+    pub process-read : (f : ℕ) → f < process-stride → getD t (process-at cores p f) 0 ≡ getD (process-list s p) f 0
     process-read f b = rw (packs .is-pack, packs .all-cores) (read-process s p f (is .0) (is .1) b)
 
-    pub progress-read : (f : ℕ) → f < 14 → getD t (process-at cores p (6 + f)) 0 ≡ getD (progress-words (process-of s p .progress)) f 0
+    pub progress-read : (f : ℕ) → f < progress-size → getD t (process-at cores p (process-progress + f)) 0 ≡ getD (progress-words (process-of s p .progress)) f 0
     progress-read f b = rw (packs .is-pack, packs .all-cores) (read-progress s p (is .0) (is .1) f b)
 
-    pub place-written : (x : Place) → Packs (set t (process-at cores p 0) (place-number x)) cores processes (put place p x s)
+    pub place-written : (x : Place) → Packs (set t (process-at cores p process-place) (place-number x)) cores processes (put place p x s)
     place-written x = still refl (length-set-nth (s .processes) p _) (rw (packs .is-pack, packs .all-cores) (put-place s p (is .0) (is .1) x))
 
-    pub data-written : (v : ℕ) → Packs (set t (process-at cores p 1) v) cores processes (put data-word p v s)
+    pub data-written : (v : ℕ) → Packs (set t (process-at cores p process-data) v) cores processes (put data-word p v s)
     data-written v = still refl (length-set-nth (s .processes) p _) (rw (packs .is-pack, packs .all-cores) (put-data-word s p (is .0) (is .1) v))
 
-    -- words 2 to 5
-    pub alternation-written : (v : Alternation) (ws : List (ℕ × ℕ)) → T (below 4 (λ j. j) ws)
+    -- the words of the alternation state
+    pub alternation-written : (v : Alternation) (ws : List (ℕ × ℕ)) → T (below (process-progress - process-enabling) (λ j. j) ws)
         → writes ws (λ j. j) (alternation-words (process-of s p .alternation)) ≡ alternation-words v
-        → Packs (writes ws (λ j. process-at cores p (2 + j)) t) cores processes (put alternation p v s)
+        → Packs (writes ws (λ j. process-at cores p (process-enabling + j)) t) cores processes (put alternation p v s)
     alternation-written v ws b turned =
         still refl (length-set-nth (s .processes) p _) (rw (packs .is-pack, packs .all-cores) (put-alternation s p (is .0) (is .1) v ws b turned))
 
-    -- words 6 to 19
-    pub progress-written : (v : Progress) (ws : List (ℕ × ℕ)) → T (below 14 (λ j. j) ws)
+    -- the words of the progress
+    pub progress-written : (v : Progress) (ws : List (ℕ × ℕ)) → T (below progress-size (λ j. j) ws)
         → writes ws (λ j. j) (progress-words (process-of s p .progress)) ≡ progress-words v
-        → Packs (writes ws (λ j. process-at cores p (6 + j)) t) cores processes (put progress p v s)
+        → Packs (writes ws (λ j. process-at cores p (process-progress + j)) t) cores processes (put progress p v s)
     progress-written v ws b turned =
         still refl (length-set-nth (s .processes) p _) (rw (packs .is-pack, packs .all-cores) (put-progress s p (is .0) (is .1) v ws b turned))
 
     -- they become 0, and then some of them are written
     abbrev zeros : List (ℕ × ℕ)
-    zeros = in-row 0 (replicate 14 0)
+    zeros = in-row 0 (replicate progress-size 0)
 
-    pub fresh-written : (v : Progress) (ws : List (ℕ × ℕ)) → T (below 14 (λ j. j) (zeros ++ ws))
-        → writes (zeros ++ ws) (λ j. j) (listed (progress-words (process-of s p .progress)) 14) ≡ progress-words v
-        → Packs (writes ws (λ j. process-at cores p (6 + j)) (cleared t cores p)) cores processes (put progress p v s)
+    pub fresh-written : (v : Progress) (ws : List (ℕ × ℕ)) → T (below progress-size (λ j. j) (zeros ++ ws))
+        → writes (zeros ++ ws) (λ j. j) (listed (progress-words (process-of s p .progress)) progress-size) ≡ progress-words v
+        → Packs (writes ws (λ j. process-at cores p (process-progress + j)) (cleared t cores p)) cores processes (put progress p v s)
     unfolding cleared
     fresh-written v ws b turned =
-        subst (λ (u : List ℕ). Packs (writes ws (λ j. process-at cores p (6 + j)) u) cores processes (put progress p v s))
-        (writes-in-row (replicate 14 0) 0 (λ j. process-at cores p (6 + j)) t (λ j. omega arith))
+        subst (λ (u : List ℕ). Packs (writes ws (λ j. process-at cores p (process-progress + j)) u) cores processes (put progress p v s))
+        (writes-in-row (replicate progress-size 0) 0 (λ j. process-at cores p (process-progress + j)) t (λ j. omega arith))
         (progress-written v (zeros ++ ws) b (on-listed (process-of s p .progress) (zeros ++ ws) turned))
 
     -- nothing in hand
@@ -140,7 +140,7 @@ module _ {t : List ℕ} {cores processes : ℕ} {s : State} (packs : Packs t cor
   -- Cores
 
   module _ (k : ℕ) (inside : k < length (s .cores)) where
-    pub core-read : (f : ℕ) → f < 16 → getD t (core-at k f) 0 ≡ getD (core-list (core-of s k)) f 0
+    pub core-read : (f : ℕ) → f < core-stride → getD t (core-at k f) 0 ≡ getD (core-list (core-of s k)) f 0
     core-read f b = rw (packs .is-pack) (read-core s k f inside b)
 
     -- a task
@@ -149,8 +149,8 @@ module _ {t : List ℕ} {cores processes : ℕ} {s : State} (packs : Packs t cor
     task-written x task q e =
         still (length-set (s .cores) k _) refl
         (rw (packs .is-pack)
-        (put-core s k (with-work (free x) (core-of s k)) (λ j. j) ((0, 0) ∷ (1, task) ∷ (2, q) ∷ []) inside tt refl refl
-        (ap (λ (l : List ℕ). listed l 3 ++ after-work (core-of s k)) (sym e))))
+        (put-core s k (with-work (free x) (core-of s k)) (λ j. j) ((core-runs, 0) ∷ (core-task, task) ∷ (core-task-process, q) ∷ []) inside tt refl refl
+        (ap (λ (l : List ℕ). listed l core-first ++ after-work (core-of s k)) (sym e))))
 
 -- process p falls asleep, and core k has a task
 pub asleep-written : {t : List ℕ} {cores processes : ℕ} {s : State} → Packs t cores processes s → (k : ℕ) → k < length (s .cores)
@@ -160,7 +160,7 @@ asleep-written packs k inside p is x task q e = task-written (place-written pack
 
 -- who is found in a channel's word of a sound table stands there
 pub who-stands : {t : List ℕ} {cores processes k : ℕ} → Card t cores processes k → (c : ℕ) → IsChannel (view t) c
-    → word-numbered (getD t (channel-at cores processes c 2) 0) ≡ channel-of (view t) c .word
+    → word-numbered (getD t (channel-at cores processes c channel-holder) 0) ≡ channel-of (view t) c .word
 who-stands {t} card c is =
-    ap word-numbered (channel-read (card-packs card) c is 2 (lit< tt))
+    ap word-numbered (channel-read (card-packs card) c is channel-holder (lit< tt))
     ∙ word-back (wiring (view t)) (channel-of (view t) c .word) (facts t (card .is-sound) .channels c (is .0) (is .1) .word)

@@ -1,6 +1,6 @@
 -- The packing of a state whose queues are in order has what each change of a queue needs.
 use Prim.Native.Nat.{ℕ, zero, suc, _≤_, _<_}
-use mathlib.Core.Path.{_≡_, refl, sym, ap, _∙_}
+use mathlib.Core.Path.{_≡_, refl, sym, ap, _∙_, subst}
 use mathlib.Core.List.{List, [], _∷_}
 use native.Mathlib.Omega.{arith}
 use lib.Dec.{lit<}
@@ -19,7 +19,7 @@ use Rattle.packing.proofs.Links.{Stands}
 use Rattle.packing.proofs.Standing.{active-among, stands-once, first-stands, second-stands, last-stands, first-head-stands, last-head-stands}
 use Rattle.packing.proofs.Take.{next-read}
 use Rattle.table.specs.Has.{HasCore, HasProcess}
-use Rattle.queues.specs.Fits.{CanPush, CanJoin, CanTake, CanStore, CanSplit, CanLoad}
+use Rattle.queues.specs.Fits.{CanPush, CanJoin, CanTake, CanBatch, CanSplit, CanStore, CanLoad}
 
 pub packed-core : (s : State) (k : ℕ) → k < length (s .cores) → HasCore (pack s) k
 packed-core s k inside = omega (arith, pack-holds s .size)
@@ -79,8 +79,8 @@ module _ (s : State) (k : ℕ) (inside : k < length (s .cores)) (queued : Queued
         size = size-read p rest e;
       }
 
-  pub can-store : (p : ℕ) (rest : List ℕ) → core-of s k .active ≡ p ∷ rest → CanStore (pack s) (length (s .cores)) k p
-  can-store p rest e =
+  batch : (p : ℕ) (rest : List ℕ) → core-of s k .active ≡ p ∷ rest → CanBatch (pack s) (length (s .cores)) k p
+  batch p rest e =
       record {
         links =
             record {
@@ -91,20 +91,28 @@ module _ (s : State) (k : ℕ) (inside : k < length (s .cores)) (queued : Queued
         process = standing p (first-stands s k inside queued p rest e);
       }
 
-  pub can-split : (p q : ℕ) (rest : List ℕ) → core-of s k .active ≡ p ∷ (q ∷ rest) → CanSplit (pack s) (length (s .cores)) k p
-  can-split p q rest e =
+  -- a queue that isn't of one process has a second
+  split : (p : ℕ) (rest : List ℕ) → core-of s k .active ≡ p ∷ rest → (length (p ∷ rest) ≡ 1 → ⊥) → CanSplit (pack s) (length (s .cores)) k p
+  split p [] e several = absurd (several refl)
+  split p (q ∷ rest) e several =
       record {
-        whole = can-store p (q ∷ rest) e;
+        whole = batch p (q ∷ rest) e;
         second = rw (next-read s k p (q ∷ rest) inside queued e) (standing q (second-stands s k inside queued p q rest e));
         size = size-read p (q ∷ rest) e;
       }
 
-  pub can-load : (batch : List ℕ) (rest : List (List ℕ)) → core-of s k .run-queue ≡ batch ∷ rest
-      → CanLoad (pack s) (length (s .cores)) k (first batch)
-  can-load [] rest e = absurd (rw e at (queued .batches k inside))
-  can-load (p ∷ more) rest e =
+  pub can-store : (p : ℕ) (rest : List ℕ) → core-of s k .active ≡ p ∷ rest → CanStore (pack s) (length (s .cores)) k
+  can-store p rest e =
       record {
         core = packed-core s k inside;
-        head = sym (read-core s k core-first-head inside (lit< tt) ∙ ap (λ r. first (heads r)) e);
-        process = standing p (first-head-stands s k inside queued p more rest e);
+        whole = subst (CanBatch (pack s) (length (s .cores)) k) (first-read p rest e) (batch p rest e);
+        parts = λ several.
+            subst (CanSplit (pack s) (length (s .cores)) k) (first-read p rest e)
+            (split p rest e (λ one. several (read-core s k core-size inside (lit< tt) ∙ ap length e ∙ one)));
       }
+
+  pub can-load : (batch : List ℕ) (rest : List (List ℕ)) → core-of s k .run-queue ≡ batch ∷ rest → CanLoad (pack s) (length (s .cores)) k
+  can-load [] rest e = absurd (rw e at (queued .batches k inside))
+  can-load (p ∷ more) rest e =
+      let head = read-core s k core-first-head inside (lit< tt) ∙ ap (λ r. first (heads r)) e in
+      record { core = packed-core s k inside; head = refl; process = rw head (standing p (first-head-stands s k inside queued p more rest e)) }

@@ -29,20 +29,29 @@ pub record CanTake (t : List ℕ) (cores k p : ℕ) : Type 0 where
   pub process : HasProcess t cores p
   pub size : 1 ≤ word-at t (core-at k core-size)
 
--- to make the active queue, with the first process p, a batch
-pub record CanStore (t : List ℕ) (cores k p : ℕ) : Type 0 where
+-- to make the active queue, with the first process p, one batch
+pub record CanBatch (t : List ℕ) (cores k p : ℕ) : Type 0 where
   pub links : CanLink t cores k (word-at t (core-at k core-last-head))
   pub first : p ≡ word-at t (core-at k core-first)
   pub process : HasProcess t cores p
 
 -- to make it two batches
 pub record CanSplit (t : List ℕ) (cores k p : ℕ) : Type 0 where
-  pub whole : CanStore t cores k p
+  pub whole : CanBatch t cores k p
   pub second : HasProcess t cores (word-at t (process-at cores p process-next))
   pub size : 1 ≤ word-at t (core-at k core-size)
 
+-- to store the active queue
+pub record CanStore (t : List ℕ) (cores k : ℕ) : Type 0 where
+  pub core : HasCore t k
+  pub whole : CanBatch t cores k (word-at t (core-at k core-first))
+  pub parts : (word-at t (core-at k core-size) ≡ 1 → ⊥) → CanSplit t cores k (word-at t (core-at k core-first))
+
 -- to make the first batch, with the head p, the active queue
-pub record CanLoad (t : List ℕ) (cores k p : ℕ) : Type 0 where
+pub record CanLoadFirst (t : List ℕ) (cores k p : ℕ) : Type 0 where
   pub core : HasCore t k
   pub head : p ≡ word-at t (core-at k core-first-head)
   pub process : HasProcess t cores p
+
+abbrev pub CanLoad : List ℕ → ℕ → ℕ → Type 0
+CanLoad t cores k = CanLoadFirst t cores k (word-at t (core-at k core-first-head))

@@ -8,11 +8,13 @@ ghost use Rattle.rules.specs.Layout.{core-stride, process-stride, process-at, p
 ghost use Rattle.packing.specs.Queues.{link-end, push-table, take-table, store-heads, store-table, split-table, load-table};
 ghost use Rattle.table.specs.Has.{HasCore, HasProcess};
 ghost use Rattle.queues.specs.Parts.{active-table, batch-table, alone-table, no-batch-table};
-ghost use Rattle.queues.specs.Fits.{CanLink, CanPush, CanJoin, CanTake, CanStore, CanSplit, CanLoad};
+ghost use Rattle.queues.specs.RunQueue.{has-batch, whole, stored-table, loaded-table};
+ghost use Rattle.queues.specs.Fits.{CanLink, CanPush, CanJoin, CanTake, CanBatch, CanSplit, CanStore, CanLoadFirst, CanLoad};
 use layout::CORE_FIRST;
 use layout::CORE_FIRST_HEAD;
 use layout::CORE_LAST;
 use layout::CORE_LAST_HEAD;
+use layout::CORE_MARK;
 use layout::CORE_SIZE;
 use layout::PLACE_QUEUED;
 use layout::PROCESS_LAST;
@@ -103,8 +105,8 @@ fn keep_batch(t: &mut [u32], cores: usize, p: u32, last: u32, size: u32)
 }
 
 // The active queue, with the first process p, becomes the last batch.
-pub fn store_whole(t: &mut [u32], cores: usize, k: usize, p: u32)
-    requires { ⌜ CanStore (now t) cores k p ⌝ }
+fn store_whole(t: &mut [u32], cores: usize, k: usize, p: u32)
+    requires { ⌜ CanBatch (now t) cores k p ⌝ }
     ensures { λ r. ⌜ now (t .exit) ≡ store-table (now (t .entry)) cores k ⌝ }
 {
     let last = table::core_word(t, k, CORE_LAST);
@@ -126,7 +128,7 @@ fn set_alone(t: &mut [u32], cores: usize, p: u32, q: u32)
 }
 
 // The active queue becomes the two last batches: its first process p alone, then the others.
-pub fn split(t: &mut [u32], cores: usize, k: usize, p: u32)
+fn split(t: &mut [u32], cores: usize, k: usize, p: u32)
     requires { ⌜ CanSplit (now t) cores k p ⌝ }
     ensures { λ r. ⌜ now (t .exit) ≡ split-table (now (t .entry)) cores k ⌝ }
 {
@@ -137,6 +139,28 @@ pub fn split(t: &mut [u32], cores: usize, k: usize, p: u32)
     set_alone(t, cores, p, q);
     keep_batch(t, cores, q, last, size - 1);
     store_heads(t, cores, k, p, q, b);
+}
+
+// With the mark set, or one process only, the queue becomes one batch.
+fn is_whole(mark: u32, size: u32) -> bool
+    ensures { λ r. ⌜ r ≡ whole mark size ⌝ }
+{
+    mark == 1 || size == 1
+}
+
+// The active queue is stored: as one batch, or split into two.
+pub fn store(t: &mut [u32], cores: usize, k: usize)
+    requires { ⌜ CanStore (now t) cores k ⌝ }
+    ensures { λ r. ⌜ now (t .exit) ≡ stored-table (now (t .entry)) cores k ⌝ }
+{
+    let p = table::core_word(t, k, CORE_FIRST);
+    let size = table::core_word(t, k, CORE_SIZE);
+    let mark = table::core_word(t, k, CORE_MARK);
+    if is_whole(mark, size) {
+        store_whole(t, cores, k, p);
+    } else {
+        split(t, cores, k, p);
+    }
 }
 
 // Process p is the head of no batch.
@@ -150,8 +174,8 @@ fn keep_nothing(t: &mut [u32], cores: usize, p: u32)
 }
 
 // The first batch, with the head p, becomes the active queue.
-pub fn load_first(t: &mut [u32], cores: usize, k: usize, p: u32)
-    requires { ⌜ CanLoad (now t) cores k p ⌝ }
+fn load_first(t: &mut [u32], cores: usize, k: usize, p: u32)
+    requires { ⌜ CanLoadFirst (now t) cores k p ⌝ }
     ensures { λ r. ⌜ now (t .exit) ≡ load-table (now (t .entry)) cores k ⌝ }
 {
     let last = table::process_word(t, cores, p, PROCESS_LAST);
@@ -162,4 +186,21 @@ pub fn load_first(t: &mut [u32], cores: usize, k: usize, p: u32)
     table::set_core_word(t, k, CORE_FIRST_HEAD, next);
     table::set_core_word(t, k, CORE_LAST_HEAD, last_head);
     keep_nothing(t, cores, p);
+}
+
+// The first batch is loaded.
+pub fn load(t: &mut [u32], cores: usize, k: usize)
+    requires { ⌜ CanLoad (now t) cores k ⌝ }
+    ensures { λ r. ⌜ now (t .exit) ≡ loaded-table (now (t .entry)) cores k ⌝ }
+{
+    let p = table::core_word(t, k, CORE_FIRST_HEAD);
+    load_first(t, cores, k, p);
+}
+
+// Core k has a batch.
+pub fn has_batch(t: &[u32], k: usize) -> bool
+    requires { ⌜ HasCore (now t) k ⌝ }
+    ensures { λ r. ⌜ r ≡ has-batch (now (t .entry)) k ⌝ }
+{
+    table::core_word(t, k, CORE_FIRST_HEAD) != 0
 }

@@ -1,6 +1,7 @@
 -- Load, and nothing to do: what they come to.
-use Prim.Native.Nat.{ℕ, _*_, _≤_, _<_, min}
+use Prim.Native.Nat.{ℕ, _*_, _<_, min}
 use mathlib.Core.Path.{_≡_, refl, sym, ap, _∙_, subst}
+use mathlib.Core.Bool.{true, false, true≢false}
 use mathlib.Core.List.{List, [], _∷_}
 use native.Mathlib.Omega.{arith}
 use lib.Dec.{T, lit<, eqb}
@@ -11,21 +12,20 @@ use Rattle.rules.specs.Numbers.{MOVED, IDLE, yes-with}
 use Rattle.rules.specs.State.{Core, no-task}
 use Rattle.rules.specs.Items.{core-of, core, put, no-core}
 use Rattle.rules.specs.Scheduler.{step}
-use Rattle.rules.specs.Layout.{core-at}
-use Rattle.rules.specs.Packing.{pack, view, heads, word-at}
-use Rattle.rules.specs.Soundness.{not-empty}
-use Rattle.packing.specs.Queues.{load-table, with-queues}
+use Rattle.rules.specs.Layout.{core-at, core-first, core-size, core-dispatch, core-mark}
+use Rattle.rules.specs.Packing.{pack, view, word-at}
+use Rattle.packing.specs.Queues.{with-queues}
 use Rattle.rules.proofs.Tests.{both, within-means}
 use Rattle.rules.proofs.Packing.ReadLaws.{read-core}
-use Rattle.packing.proofs.Load.{load-law}
 use Rattle.answers.specs.Four.{four}
 use Rattle.answers.specs.declared.Reply.{Reply}
 use Rattle.parts.specs.Does.{Comes, Does}
 use Rattle.parts.proofs.Packs.{on-pack, as-packed}
 use Rattle.queues.specs.Fits.{CanLoad}
+use Rattle.queues.specs.RunQueue.{any-batch, has-batch, loaded-table}
 use Rattle.queues.proofs.Fits.{can-load}
-use Rattle.queues.proofs.Laws.{load-step-law}
-use Rattle.scheduler.specs.Free.{Free, Loads, loaded-table}
+use Rattle.queues.proofs.Laws.{batch-law, load-queue-law, load-step-law}
+use Rattle.scheduler.specs.Free.{Free, Loads}
 use Rattle.scheduler.proofs.Idle as idle
 use Rattle.scheduler.proofs.Known.{free-packs, free-inside, free-order, free-read}
 
@@ -34,80 +34,71 @@ empties : (n : ℕ) (l : List ℕ) → T (all (within 1 n) l) → first l ≡ 0 
 empties n [] h e = refl
 empties n (x ∷ l) h e = absurd (let r = within-means 1 n x (both (within 1 n x) (all (within 1 n) l) h .0) in omega arith)
 
--- a run queue whose first head is a process has a first batch
-begins-with : (l : List (List ℕ)) (p : ℕ) → p ≡ first (heads l) → 1 ≤ p → (batch : List ℕ) × (rest : List (List ℕ)) × (l ≡ batch ∷ rest) × (p ≡ first batch)
-begins-with [] p e h = absurd (omega arith)
-begins-with (batch ∷ rest) p e h = (batch, rest, refl, e)
+-- a run queue has a first batch, or it is empty
+some-batch : (l : List (List ℕ)) → any-batch l ≡ true → (batch : List ℕ) × (rest : List (List ℕ)) × (l ≡ batch ∷ rest)
+some-batch [] e = absurd (true≢false (sym e))
+some-batch (batch ∷ rest) e = (batch, rest, refl)
 
--- and one whose first head is 0, with no empty batch, has none
-no-batch : (n : ℕ) (l : List (List ℕ)) → T (all not-empty l) → T (all (all (within 1 n)) l) → first (heads l) ≡ 0 → l ≡ []
-no-batch n [] h g e = refl
-no-batch n ([] ∷ l) h g e = absurd h
-no-batch n ((x ∷ batch) ∷ l) h g e =
-    absurd
-    (let whole = both (all (within 1 n) (x ∷ batch)) (all (all (within 1 n)) l) g .0 in
-    let r = within-means 1 n x (both (within 1 n x) (all (within 1 n) batch) whole .0) in
-    omega arith)
+no-batch : (l : List (List ℕ)) → any-batch l ≡ false → l ≡ []
+no-batch [] e = refl
+no-batch (batch ∷ rest) e = absurd (true≢false e)
+
+-- the first batch is active, with the dispatch count n and the mark m
+abbrev loaded-step : List ℕ → ℕ → ℕ → ℕ → ℕ → List ℕ
+loaded-step t cores k n m = set (set (loaded-table t cores k) (core-at k core-dispatch) n) (core-at k core-mark) m
 
 module _ {t : List ℕ} {cores processes k : ℕ} (free : Free t cores processes k no-task) where
   -- the active queue is empty where its first word is 0
-  is-empty : word-at t (core-at k 3) ≡ 0 → core-of (view t) k .active ≡ []
+  is-empty : word-at t (core-at k core-first) ≡ 0 → core-of (view t) k .active ≡ []
   is-empty e =
       let members = free-order free .members k (free-inside free) in
       empties (length (view t .processes)) (core-of (view t) k .active) (both (all (within 1 (length (view t .processes))) (core-of (view t) k .active)) _ members .0)
-      (sym (free-read free 3 (lit< tt)) ∙ e)
+      (sym (free-read free core-first (lit< tt)) ∙ e)
+
+  batches-found : has-batch t k ≡ any-batch (core-of (view t) k .run-queue)
+  batches-found =
+      on-pack (free-packs free) (λ u n. has-batch u k ≡ any-batch (core-of (view t) k .run-queue))
+      (batch-law (view t) k (free-inside free) (free-order free))
 
   -- nothing to do
-  pub idle-does : {r : Reply} → word-at t (core-at k 3) ≡ 0 → word-at t (core-at k 8) ≡ 0 → r ≡ four (yes-with IDLE) → Does (step k) t r t
-  idle-does {r} no-active no-heads reply =
-      let members = free-order free .members k (free-inside free) in
-      let n = length (view t .processes) in
-      let batches = no-batch n (core-of (view t) k .run-queue) (free-order free .batches k (free-inside free))
-      (both (all (within 1 n) (core-of (view t) k .active)) (all (all (within 1 n)) (core-of (view t) k .run-queue)) members .1)
-      (sym (free-read free 8 (lit< tt)) ∙ no-heads) in
+  pub idle-does : {r : Reply} → word-at t (core-at k core-first) ≡ 0 → has-batch t k ≡ false → r ≡ four (yes-with IDLE) → Does (step k) t r t
+  idle-does {r} no-active none reply =
+      let batches = no-batch (core-of (view t) k .run-queue) (sym batches-found ∙ none) in
       subst (λ x. Comes x t r t) (sym (idle.idles (view t) k (free .work) (is-empty no-active) batches)) (reply, free-packs free .is-pack)
 
 module _ {t : List ℕ} {cores processes k : ℕ} (pre : Loads t cores processes k) where
-  pub batches : (batch : List ℕ) × (rest : List (List ℕ)) × (core-of (view t) k .run-queue ≡ batch ∷ rest) × (word-at t (core-at k 8) ≡ first batch)
-  batches = begins-with (core-of (view t) k .run-queue) (word-at t (core-at k 8)) (free-read (pre .free) 8 (lit< tt)) (pre .batch)
+  batches : (batch : List ℕ) × (rest : List (List ℕ)) × (core-of (view t) k .run-queue ≡ batch ∷ rest)
+  batches = some-batch (core-of (view t) k .run-queue) (sym (batches-found (pre .free)) ∙ pre .batch)
 
-  pub can-load-head : CanLoad t cores k (word-at t (core-at k 8))
-  can-load-head =
-      on-pack (free-packs (pre .free)) (λ u n. CanLoad u n k (word-at t (core-at k 8)))
-      (subst (CanLoad (pack (view t)) (length (view t .cores)) k) (sym (batches .3))
-      (can-load (view t) k (free-inside (pre .free)) (free-order (pre .free)) (batches .0) (batches .1) (batches .2)))
+  empty : core-of (view t) k .active ≡ []
+  empty = is-empty (pre .free) (pre .empty)
+
+  pub may-load : CanLoad t cores k
+  may-load =
+      on-pack (free-packs (pre .free)) (λ u n. CanLoad u n k)
+      (can-load (view t) k (free-inside (pre .free)) (free-order (pre .free)) (batches .0) (batches .1) (batches .2))
 
   -- the size that is read once the batch is active
-  pub size-is : {size : ℕ} {u : List ℕ} → u ≡ load-table t cores k → size ≡ word-at u (core-at k 5) → size ≡ length (batches .0)
+  size-is : {size : ℕ} {u : List ℕ} → u ≡ loaded-table t cores k → size ≡ word-at u (core-at k core-size) → size ≡ length (batches .0)
   size-is {size} {u} wrote read =
       let c = with-queues (batches .0) (batches .1) (core-of (view t) k) in
       let inside = free-inside (pre .free) in
       let after : u ≡ pack (put core k c (view t)) =
-      wrote ∙ as-packed (free-packs (pre .free)) (λ u n. load-table u n k)
-      (load-law (view t) k (batches .0) (batches .1) inside (free-order (pre .free)) (is-empty (pre .free) (pre .empty)) (batches .2)) in
-      read ∙ ap (λ (u : List ℕ). word-at u (core-at k 5)) after
-      ∙ read-core (put core k c (view t)) k 5 (subst (λ (n : ℕ). k < n) (sym (length-set (view t .cores) k c)) inside) (lit< tt)
+      wrote ∙ as-packed (free-packs (pre .free)) (λ u n. loaded-table u n k)
+      (load-queue-law (view t) k inside (free-order (pre .free)) (batches .0) (batches .1) empty (batches .2)) in
+      read ∙ ap (λ (u : List ℕ). word-at u (core-at k core-size)) after
+      ∙ read-core (put core k c (view t)) k core-size (subst (λ (n : ℕ). k < n) (sym (length-set (view t .cores) k c)) inside) (lit< tt)
       ∙ ap (λ (c : Core). length (c .active)) (getD-set-same (view t .cores) k c no-core inside)
 
-  pub load-does : {n m : ℕ} {r : Reply} {u : List ℕ} → n ≡ min 32 (4 * length (batches .0)) → m ≡ bit (eqb (length (batches .0)) 1)
-      → r ≡ four (yes-with MOVED) → u ≡ loaded-table t cores k n m → Does (step k) t r u
-  load-does {n} {m} {r} {u} count mark reply wrote =
-      let empty = is-empty (pre .free) (pre .empty) in
+  -- what the code has written: the batch, then the count, then the mark
+  pub load-does : {size n m : ℕ} {a b u : List ℕ} {r : Reply} → a ≡ loaded-table t cores k → size ≡ word-at a (core-at k core-size)
+      → n ≡ min 32 (4 * size) → m ≡ bit (eqb size 1) → b ≡ set a (core-at k core-dispatch) n → u ≡ set b (core-at k core-mark) m
+      → r ≡ four (yes-with MOVED) → Does (step k) t r u
+  load-does {u = u} {r = r} active read count mark counted marked reply =
+      let size = length (batches .0) in
+      let wrote : u ≡ loaded-step t cores k (min 32 (4 * size)) (bit (eqb size 1)) = let e = size-is active read in cc in
       subst (λ x. Comes x t r u) (sym (idle.loads (view t) k (pre .free .work) (batches .0) (batches .1) empty (batches .2))) (
         reply,
-        wrote ∙ (λ i. loaded-table t cores k (count i) (mark i))
-            ∙ as-packed (free-packs (pre .free)) (λ u n. loaded-table u n k (min 32 (4 * length (batches .0))) (bit (eqb (length (batches .0)) 1)))
-            (load-step-law (view t) k (free-inside (pre .free)) (free-order (pre .free)) _ _ (batches .0) (batches .1) empty (batches .2)),
+        wrote ∙ as-packed (free-packs (pre .free)) (λ u n. loaded-step u n k (min 32 (4 * size)) (bit (eqb size 1)))
+            (load-step-law (view t) k (free-inside (pre .free)) (free-order (pre .free)) (batches .0) (batches .1) empty (batches .2) _ _),
       )
-
-  pub can-load-first : {p : ℕ} → p ≡ word-at t (core-at k 8) → CanLoad t cores k p
-  can-load-first e = subst (CanLoad t cores k) (sym e) can-load-head
-
-  -- what the code has written: the batch, then the count, then the mark
-  pub load-writes : {size n m : ℕ} {a b u : List ℕ} {r : Reply} → a ≡ load-table t cores k → size ≡ word-at a (core-at k 5)
-      → n ≡ min 32 (4 * size) → m ≡ bit (eqb size 1) → b ≡ set a (core-at k 6) n → u ≡ set b (core-at k 7) m → r ≡ four (yes-with MOVED)
-      → Does (step k) t r u
-  load-writes {n = n} {m = m} active read count mark first-write second-write reply =
-      let size = size-is active read in
-      load-does (count ∙ ap (λ (s : ℕ). min 32 (4 * s)) size) (mark ∙ ap (λ (s : ℕ). bit (eqb s 1)) size) reply
-      (second-write ∙ ap (λ (u : List ℕ). set u (core-at k 7) m) (first-write ∙ ap (λ (u : List ℕ). set u (core-at k 6) n) active))

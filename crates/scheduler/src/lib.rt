@@ -1,6 +1,6 @@
 // The steps of a core with nothing running and no task (document 01; 000, section 2.1).
 ghost use mathlib.Core.Path.{_≡_};
-ghost use Prim.Native.Nat.{_+_, _*_, _-_, _<_, min};
+ghost use Prim.Native.Nat.{_*_, min};
 ghost use lib.Dec.{eqb};
 ghost use Rattle.rules.specs.Lists.{bit};
 ghost use Rattle.rules.specs.State.{no-task};
@@ -16,45 +16,33 @@ fn run_first(t: &mut [u32], cores: usize, k: usize, p: u32, n: u32)
     ensures { λ r. ⌜ now (t .exit) ≡ taken-table (now (t .entry)) cores k p n ⌝ }
 {
     queues::take_first(t, cores, k, p);
-    t[8 + 16 * k + 0] = p;
-    t[8 + 16 * k + 6] = n;
-    let i = p as usize;
-    t[8 + 16 * cores + 24 * (i - 1) + 0] = 1;
+    table::set_core_word(t, k, layout::CORE_RUNS, p);
+    table::set_core_word(t, k, layout::CORE_DISPATCH, n);
+    table::set_process_word(t, cores, p, layout::PROCESS_PLACE, layout::PLACE_RUNNING);
 }
 
 // Take the head, count - 1; answer its outcome, or MOVED where its request goes on.
-fn take_head(t: &mut [u32], cores: usize, processes: usize, k: usize) -> Reply
+fn take_step(t: &mut [u32], cores: usize, processes: usize, k: usize) -> Reply
     requires { ⌜ Takes (now t) cores processes k ⌝ }
     ensures { λ r. ⌜ Does (step k) (now (t .entry)) r (now (t .exit)) ⌝ }
 {
-    let p = table::core_word(t, k, 3);
-    let count = table::core_word(t, k, 6);
+    let p = table::core_word(t, k, layout::CORE_FIRST);
+    let count = table::core_word(t, k, layout::CORE_DISPATCH);
     run_first(t, cores, k, p, count - 1);
-    let number = table::process_word(t, cores, p, 6);
-    if number < 20 {
+    let number = table::process_word(t, cores, p, layout::PROCESS_PROGRESS);
+    if number < layout::DUE_GO {
         return answers::moved();
     }
-    let c = table::process_word(t, cores, p, 7);
+    let c = table::process_word(t, cores, p, layout::PROCESS_CHANNEL);
     parts::reports(t, cores, p, number, c)
 }
 
-// Store: with the mark set, or one process only, the queue becomes one batch; otherwise it is split.
-fn store_queue(t: &mut [u32], cores: usize, processes: usize, k: usize) -> Reply
+// Store the active queue.
+fn store_step(t: &mut [u32], cores: usize, processes: usize, k: usize) -> Reply
     requires { ⌜ Stores (now t) cores processes k ⌝ }
     ensures { λ r. ⌜ Does (step k) (now (t .entry)) r (now (t .exit)) ⌝ }
 {
-    let p = table::core_word(t, k, 3);
-    let members = table::core_word(t, k, 5);
-    let mark = table::core_word(t, k, 7);
-    if mark == 1 {
-        queues::store_whole(t, cores, k, p);
-        return answers::moved();
-    }
-    if members == 1 {
-        queues::store_whole(t, cores, k, p);
-        return answers::moved();
-    }
-    queues::split(t, cores, k, p);
+    queues::store(t, cores, k);
     answers::moved()
 }
 
@@ -73,17 +61,16 @@ fn single_mark(size: u32) -> u32
 }
 
 // Load the first batch.
-fn load_batch(t: &mut [u32], cores: usize, processes: usize, k: usize) -> Reply
+fn load_step(t: &mut [u32], cores: usize, processes: usize, k: usize) -> Reply
     requires { ⌜ Loads (now t) cores processes k ⌝ }
     ensures { λ r. ⌜ Does (step k) (now (t .entry)) r (now (t .exit)) ⌝ }
 {
-    let p = table::core_word(t, k, 8);
-    queues::load_first(t, cores, k, p);
-    let size = table::core_word(t, k, 5);
+    queues::load(t, cores, k);
+    let size = table::core_word(t, k, layout::CORE_SIZE);
     let count = dispatch_count(size);
     let mark = single_mark(size);
-    table::set_core_word(t, k, 6, count);
-    table::set_core_word(t, k, 7, mark);
+    table::set_core_word(t, k, layout::CORE_DISPATCH, count);
+    table::set_core_word(t, k, layout::CORE_MARK, mark);
     answers::moved()
 }
 
@@ -92,17 +79,16 @@ pub fn schedule(t: &mut [u32], cores: usize, processes: usize, k: usize) -> Repl
     requires { ⌜ Free (now t) cores processes k no-task ⌝ }
     ensures { λ r. ⌜ Does (step k) (now (t .entry)) r (now (t .exit)) ⌝ }
 {
-    let head = table::core_word(t, k, 3);
-    let count = table::core_word(t, k, 6);
-    let batch = table::core_word(t, k, 8);
+    let head = table::core_word(t, k, layout::CORE_FIRST);
+    let count = table::core_word(t, k, layout::CORE_DISPATCH);
     if head != 0 {
         if count == 0 {
-            return store_queue(t, cores, processes, k);
+            return store_step(t, cores, processes, k);
         }
-        return take_head(t, cores, processes, k);
+        return take_step(t, cores, processes, k);
     }
-    if batch != 0 {
-        return load_batch(t, cores, processes, k);
+    if queues::has_batch(t, k) {
+        return load_step(t, cores, processes, k);
     }
     answers::idle()
 }

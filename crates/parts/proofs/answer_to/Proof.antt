@@ -5,6 +5,7 @@ use native.Mathlib.Omega.{arith}
 use lib.Dec.{eqb}
 use borrow.Author.Tests.{eq-eqb, ne-eqb}
 use borrow.Author.Needs.{needs}
+use Rattle.rules.specs.Layout.{due-go, due-sent, due-got}
 use Rattle.parts.proofs.answer_to.Statement.{statement}
 use Rattle.parts.proofs.answer_to.Tie as tie
 
@@ -23,30 +24,30 @@ chose-requires c κs = search needs
 returns : tie.Need-returns
 returns c =
     let n = c .before .before .args .number in
-    let go : eqb n 20 ≡ true = eq-eqb n 20 (omega arith) in
+    let go : eqb n due-go ≡ true = eq-eqb n due-go (omega arith) in
     rw go (c .go .ensures)
 
 returns-2 : tie.Need-returns-2
 returns-2 c =
     let n = c .before .before .before .args .number in
-    let not-go : eqb n 20 ≡ false = ne-eqb n 20 (omega arith) in
-    let sent : eqb n 21 ≡ true = eq-eqb n 21 (omega arith) in
+    let not-go : eqb n due-go ≡ false = ne-eqb n due-go (omega arith) in
+    let sent : eqb n due-sent ≡ true = eq-eqb n due-sent (omega arith) in
     rw (not-go, sent) (c .sent .ensures)
 
 returns-3 : tie.Need-returns-3
 returns-3 c =
     let n = c .before .before .before .before .args .number in
-    let not-go : eqb n 20 ≡ false = ne-eqb n 20 (omega arith) in
-    let not-sent : eqb n 21 ≡ false = ne-eqb n 21 (omega arith) in
-    let got : eqb n 22 ≡ true = eq-eqb n 22 (omega arith) in
+    let not-go : eqb n due-go ≡ false = ne-eqb n due-go (omega arith) in
+    let not-sent : eqb n due-sent ≡ false = ne-eqb n due-sent (omega arith) in
+    let got : eqb n due-got ≡ true = eq-eqb n due-got (omega arith) in
     rw (not-go, not-sent, got) (c .got .ensures)
 
 returns-4 : tie.Need-returns-4
 returns-4 c =
     let n = c .before .before .before .before .args .number in
-    let not-go : eqb n 20 ≡ false = ne-eqb n 20 (omega arith) in
-    let not-sent : eqb n 21 ≡ false = ne-eqb n 21 (omega arith) in
-    let not-got : eqb n 22 ≡ false = ne-eqb n 22 (omega arith) in
+    let not-go : eqb n due-go ≡ false = ne-eqb n due-go (omega arith) in
+    let not-sent : eqb n due-sent ≡ false = ne-eqb n due-sent (omega arith) in
+    let not-got : eqb n due-got ≡ false = ne-eqb n due-got (omega arith) in
     rw (not-go, not-sent, not-got) (c .chose .ensures)
 
 pub answer-to-spec : {M : Type 1} → statement M

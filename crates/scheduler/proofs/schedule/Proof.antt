@@ -1,4 +1,5 @@
 -- Each case is proved of its function; where both queues are empty there is nothing to do.
+use mathlib.Core.Path.{sym, _∙_}
 use native.Mathlib.Omega.{arith}
 use Rattle.scheduler.proofs.Known.{free-core}
 use Rattle.scheduler.proofs.Load.{idle-does}
@@ -7,16 +8,13 @@ use Rattle.scheduler.proofs.schedule.Statement.{statement}
 use Rattle.scheduler.proofs.schedule.Tie as tie
 
 core-word-requires : tie.Need-core-word-requires
-core-word-requires c κs = free-core (c .before .before .pre) .word-3
+core-word-requires c κs = let here = free-core (c .before .before .pre) in omega arith
 
 core-word-requires-2 : tie.Need-core-word-requires-2
-core-word-requires-2 c κs = free-core (c .before .before .before .before .pre) .word-6
+core-word-requires-2 c κs = let here = free-core (c .before .before .before .before .pre) in omega arith
 
-core-word-requires-3 : tie.Need-core-word-requires-3
-core-word-requires-3 c κs = free-core (c .before .before .before .before .before .before .pre) .word-8
-
-store-queue-requires : tie.Need-store-queue-requires
-store-queue-requires c κs = search needs
+store-step-requires : tie.Need-store-step-requires
+store-step-requires c κs = search needs
 
 same-length : tie.Need-same-length
 same-length c = search needs
@@ -24,8 +22,8 @@ same-length c = search needs
 returns : tie.Need-returns
 returns c = search needs
 
-take-head-requires : tie.Need-take-head-requires
-take-head-requires c κs = search needs
+take-step-requires : tie.Need-take-step-requires
+take-step-requires c κs = search needs
 
 same-length-2 : tie.Need-same-length-2
 same-length-2 c = search needs
@@ -33,8 +31,12 @@ same-length-2 c = search needs
 returns-2 : tie.Need-returns-2
 returns-2 c = search needs
 
-load-batch-requires : tie.Need-load-batch-requires
-load-batch-requires c κs = search needs
+has-batch-requires : tie.Need-has-batch-requires
+has-batch-requires c κs = free-core (c .before .before .before .before .before .before .before .pre)
+
+load-step-requires : tie.Need-load-step-requires
+load-step-requires c κs =
+    record { free = c .before .before .before .before .before .before .before .before .before .before .pre; empty = omega arith; batch = sym (c .before .before .has-batch .ensures) ∙ c .before .if3 .taken }
 
 same-length-3 : tie.Need-same-length-3
 same-length-3 c = search needs
@@ -49,7 +51,8 @@ same-length-4 : tie.Need-same-length-4
 same-length-4 c = search needs
 
 returns-4 : tie.Need-returns-4
-returns-4 c = idle-does (c .before .before .before .before .before .before .before .before .before .before .pre) (omega arith) (omega arith) (c .idle .ensures)
+returns-4 c =
+    idle-does (c .before .before .before .before .before .before .before .before .before .before .pre) (omega arith) (sym (c .before .before .has-batch .ensures) ∙ c .before .if3 .left) (c .idle .ensures)
 
 pub schedule-spec : {M : Type 1} → statement M
 schedule-spec =
@@ -57,14 +60,14 @@ schedule-spec =
     (tie.spec
     core-word-requires
     core-word-requires-2
-    core-word-requires-3
-    store-queue-requires
+    store-step-requires
     same-length
     returns
-    take-head-requires
+    take-step-requires
     same-length-2
     returns-2
-    load-batch-requires
+    has-batch-requires
+    load-step-requires
     same-length-3
     returns-3
     idle-requires
