@@ -16,7 +16,9 @@ use Rattle.rules.specs.Items.{process-of, no-process, put, alternation, progres
 use Rattle.rules.specs.Rule.{Rule, run, becomes, _>>_}
 use Rattle.rules.specs.Steps.{next}
 use Rattle.rules.specs.Choice.{guard, counting, flags, waits, wait-step, disable-next, keep-first, disabled, disable-step, lower-step}
-use Rattle.rules.specs.Layout.{process-at, channel-at}
+use Rattle.rules.specs.Layout.{process-at, channel-at, at-disable, at-finish, at-lower, at-wait, channel-holder, process-count}
+use Rattle.rules.specs.Layout.{process-enabling, process-first-ready, process-index, process-not-ready, process-progress, process-waiting}
+use Rattle.rules.specs.Layout.{task-none}
 use Rattle.rules.specs.Packing.{ready-number, progress-words, pack, view, word-numbered}
 use Rattle.rules.specs.Soundness.{own-guards, in-list, ready-in-list}
 use Rattle.rules.proofs.Tests.{three}
@@ -31,7 +33,7 @@ use Rattle.parts.proofs.Card.{card-inside, stage-valid}
 use Rattle.parts.proofs.Packs.{IsProcess, still-process, process-read, asleep-written}
 use Rattle.parts.proofs.Flags.{clear-flag, set-flag}
 use Rattle.guards.specs.Read.{word-of, guard-word-at, AtGuard, stage-table, next-table, flags-table, kept-table}
-use Rattle.guards.proofs.Guards.{Chooses, at-chooses, index-reads, ready-reads, count-is, same-guard, other-guard, next-packs}
+use Rattle.guards.proofs.Guards.{in-alternation, Chooses, at-chooses, index-reads, ready-reads, count-is, same-guard, other-guard, next-packs}
 use Rattle.guards.proofs.Guards.{alternation-chooses, ready-chooses, word-chooses}
 use Rattle.guards.proofs.Rules.{kept-number, lowered-fault, lowered-on}
 use Rattle.guards.proofs.Stands.{Stands, disabling-stands, guard-among, guard-is, has-guard, found-word}
@@ -58,57 +60,57 @@ put-twice s (suc p) x y among =
 
 -- From a guard that is disabled the choice goes to the next.
 disabled-packs : {t : List ℕ} {cores processes : ℕ} {s : State} {p n : ℕ} {gs : List ℕ} {i : ℕ} {x : Option ℕ}
-    → Chooses t cores processes s p n gs i x → next-table t cores p 17 19 ≡ pack (put progress p (doing (disable-next gs i x)) s)
+    → Chooses t cores processes s p n gs i x → next-table t cores p at-disable at-finish ≡ pack (put progress p (doing (disable-next gs i x)) s)
 unfolding progress-words
-disabled-packs {gs = gs} {i} {x} h = next-packs h (disable gs (i + 1) x) (finish gs x) 17 19 refl refl
+disabled-packs {gs = gs} {i} {x} h = next-packs h (disable gs (i + 1) x) (finish gs x) at-disable at-finish refl refl
 
 module _ {t : List ℕ} {cores processes k p : ℕ} {gs : List ℕ} where
   -- Wait
 
   module _ (at : At t cores processes k p (wait gs)) where
-    wait-chooses : Chooses t cores processes (view t) p 16 gs 0 none
+    wait-chooses : Chooses t cores processes (view t) p at-wait gs 0 none
     unfolding progress-words
-    wait-chooses = at-chooses at 16 gs 0 none refl
+    wait-chooses = at-chooses at at-wait gs 0 none refl
 
     abbrev waiter : Alternation
     waiter = process-of (view t) p .alternation
 
-    flag-is : word-of t cores p 3 ≡ bit (waiter .not-ready)
-    flag-is = process-read (wait-chooses .packs) p (wait-chooses .among) 3 (lit< tt)
+    flag-is : word-of t cores p process-not-ready ≡ bit (waiter .not-ready)
+    flag-is = process-read (wait-chooses .packs) p (wait-chooses .among) process-not-ready (lit< tt)
 
     -- a guard is ready
-    pub wait-ready : {r : Reply} {u : List ℕ} → word-of t cores p 3 ≡ 0 → r ≡ four (yes-with MOVED)
-        → u ≡ stage-table (set t (process-at cores p 2) 0) cores p 1 17 → Does (wait-step k p gs) t r u
+    pub wait-ready : {r : Reply} {u : List ℕ} → word-of t cores p process-not-ready ≡ 0 → r ≡ four (yes-with MOVED)
+        → u ≡ stage-table (set t (process-at cores p process-enabling) 0) cores p 1 at-disable → Does (wait-step k p gs) t r u
     unfolding progress-words
     wait-ready {r} {u} e a b =
         let clear : waiter .not-ready ≡ false = clear-flag (waiter .not-ready) (sym flag-is ∙ e) in
         subst (λ (y : Bool). Comes (run (waits k p gs waiter y) (view t)) t r u) (sym clear) (
           a,
-          b ∙ other-guard (alternation-chooses wait-chooses (flags false false (waiter .waiting) waiter) ((0, 0) ∷ []) tt
-              (ap (λ (y : Bool). 0 ∷ bit y ∷ bit (waiter .waiting) ∷ waiter .count ∷ []) clear)) (disable gs 1 none) 17 1 refl .is-pack,
+          b ∙ other-guard (alternation-chooses wait-chooses (flags false false (waiter .waiting) waiter) ((in-alternation process-enabling, 0) ∷ []) tt
+              (ap (λ (y : Bool). 0 ∷ bit y ∷ bit (waiter .waiting) ∷ waiter .count ∷ []) clear)) (disable gs 1 none) at-disable 1 refl .is-pack,
         )
 
     -- none is. The word read is n, the tables on the way are v and w.
-    pub wait-asleep : {r : Reply} {u v w : List ℕ} {n : ℕ} → n ≡ word-of t cores p 3 → (n ≡ 0 → ⊥) → v ≡ flags-table t cores p 0 0 1
-        → w ≡ stage-table v cores p 1 17 → r ≡ four (yes-with (SLEPT p)) → u ≡ asleep-table w cores k p 0 0 → Does (wait-step k p gs) t r u
+    pub wait-asleep : {r : Reply} {u v w : List ℕ} {n : ℕ} → n ≡ word-of t cores p process-not-ready → (n ≡ 0 → ⊥) → v ≡ flags-table t cores p 0 0 1
+        → w ≡ stage-table v cores p 1 at-disable → r ≡ four (yes-with (SLEPT p)) → u ≡ asleep-table w cores k p task-none 0 → Does (wait-step k p gs) t r u
     unfolding progress-words
     wait-asleep {r} {u} reads ne first second a b =
-        let put-flags = alternation-chooses wait-chooses (flags false false true waiter) ((0, 0) ∷ (1, 0) ∷ (2, 1) ∷ []) tt refl in
+        let put-flags = alternation-chooses wait-chooses (flags false false true waiter) ((in-alternation process-enabling, 0) ∷ (in-alternation process-not-ready, 0) ∷ (in-alternation process-waiting, 1) ∷ []) tt refl in
         let waiting : State = put alternation p (flags false false true waiter) (view t) in
         let none-ready : waiter .not-ready ≡ true = set-flag (waiter .not-ready) (λ e. ne (reads ∙ flag-is ∙ e)) in
         subst (λ (y : Bool). Comes (run (waits k p gs waiter y) (view t)) t r u) (sym none-ready) (
           a,
-          b ∙ ap (λ (l : List ℕ). asleep-table l cores k p 0 0) (second ∙ ap (λ (l : List ℕ). stage-table l cores p 1 17) first)
-              ∙ asleep-written (other-guard put-flags (disable gs 1 none) 17 1 refl) k (card-inside (at .card)) p
-              (still-process waiting p p _ (put-flags .among)) no-task 0 0 refl .is-pack,
+          b ∙ ap (λ (l : List ℕ). asleep-table l cores k p task-none 0) (second ∙ ap (λ (l : List ℕ). stage-table l cores p 1 at-disable) first)
+              ∙ asleep-written (other-guard put-flags (disable gs 1 none) at-disable 1 refl) k (card-inside (at .card)) p
+              (still-process waiting p p _ (put-flags .among)) no-task task-none 0 refl .is-pack,
         )
 
   -- Disable
 
   module _ {i : ℕ} {x : Option ℕ} (at : At t cores processes k p (disable gs i x)) where
-    disable-stands : Stands t cores processes k p 17 gs i x
+    disable-stands : Stands t cores processes k p at-disable gs i x
     unfolding progress-words
-    disable-stands = disabling-stands at 17 gs i x refl (stage-valid t cores processes k p (disable gs i x) at)
+    disable-stands = disabling-stands at at-disable gs i x refl (stage-valid t cores processes k p (disable gs i x) at)
 
     pub disable-guard : AtGuard t cores processes p
     disable-guard = has-guard disable-stands
@@ -123,16 +125,16 @@ module _ {t : List ℕ} {cores processes k p : ℕ} {gs : List ℕ} where
 
     module _ {found : Holder} {n : ℕ} {r : Reply} {u : List ℕ} where
       pub disable-nobody : found ≡ Nobody → n ≡ getD t (guard-word-at t cores processes p) 0 → meaning found ≡ word-numbered n
-          → r ≡ four (yes-with MOVED) → u ≡ next-table t cores p 17 19 → Does (disable-step p gs i x) t r u
+          → r ≡ four (yes-with MOVED) → u ≡ next-table t cores p at-disable at-finish → Does (disable-step p gs i x) t r u
       disable-nobody finds reads made a b = by-word finds reads made r u (a, b ∙ disabled-packs (disable-stands .chooses))
 
       pub disable-ready : {q : ℕ} → found ≡ Plain q → n ≡ getD t (guard-word-at t cores processes p) 0 → meaning found ≡ word-numbered n
-          → r ≡ four (yes-with MOVED) → u ≡ next-table (kept-table t cores p) cores p 17 19 → Does (disable-step p gs i x) t r u
+          → r ≡ four (yes-with MOVED) → u ≡ next-table (kept-table t cores p) cores p at-disable at-finish → Does (disable-step p gs i x) t r u
       unfolding progress-words
       disable-ready finds reads made a b =
           let valid = stage-valid t cores processes k p (disable gs i x) at in
           let ready = three (own-guards (wiring (view t)) p gs) (in-list gs i) (ready-in-list gs x) valid .2 in
-          let kept : (if eqb (word-of t cores p 11) 0 then word-of t cores p 10 else word-of t cores p 11) ≡ ready-number (keep-first x i) =
+          let kept : (if eqb (word-of t cores p process-first-ready) 0 then word-of t cores p process-index else word-of t cores p process-first-ready) ≡ ready-number (keep-first x i) =
           rw (ready-reads (disable-stands .chooses), index-reads (disable-stands .chooses)) (kept-number gs x i ready) in
           by-word finds reads made r u (
             a,
@@ -141,44 +143,44 @@ module _ {t : List ℕ} {cores processes k p : ℕ} {gs : List ℕ} where
           )
 
       pub disable-own : {q : ℕ} → found ≡ Choosing q → n ≡ getD t (guard-word-at t cores processes p) 0 → meaning found ≡ word-numbered n → q ≡ p
-          → r ≡ four (yes-with MOVED) → u ≡ set (set t (guard-word-at t cores processes p) 0) (process-at cores p 6) 18
+          → r ≡ four (yes-with MOVED) → u ≡ set (set t (guard-word-at t cores processes p) 0) (process-at cores p process-progress) at-lower
           → Does (disable-step p gs i x) t r u
       unfolding progress-words
       disable-own {q} finds reads made own a b =
           by-word finds reads made r u
           (rw (eq-eqb q p own) (
             a,
-            b ∙ ap (λ (c : ℕ). set (set t (channel-at cores processes c 2) 0) (process-at cores p 6) 18) (guard-is disable-stands)
-                ∙ same-guard (word-chooses (disable-stands .chooses) (guard gs i) (guard-among disable-stands) nobody) (lower gs i x) 18 refl,
+            b ∙ ap (λ (c : ℕ). set (set t (channel-at cores processes c channel-holder) 0) (process-at cores p process-progress) at-lower) (guard-is disable-stands)
+                ∙ same-guard (word-chooses (disable-stands .chooses) (guard gs i) (guard-among disable-stands) nobody) (lower gs i x) at-lower refl,
           ))
 
       pub disable-other : {q : ℕ} → found ≡ Choosing q → n ≡ getD t (guard-word-at t cores processes p) 0 → meaning found ≡ word-numbered n
-          → (q ≡ p → ⊥) → r ≡ four (yes-with MOVED) → u ≡ next-table t cores p 17 19 → Does (disable-step p gs i x) t r u
+          → (q ≡ p → ⊥) → r ≡ four (yes-with MOVED) → u ≡ next-table t cores p at-disable at-finish → Does (disable-step p gs i x) t r u
       disable-other {q} finds reads made other a b =
           by-word finds reads made r u (rw (ne-eqb q p other) (a, b ∙ disabled-packs (disable-stands .chooses)))
 
   -- Lower
 
   module _ {i : ℕ} {x : Option ℕ} (at : At t cores processes k p (lower gs i x)) where
-    lower-chooses : Chooses t cores processes (view t) p 18 gs i x
+    lower-chooses : Chooses t cores processes (view t) p at-lower gs i x
     unfolding progress-words
-    lower-chooses = at-chooses at 18 gs i x refl
+    lower-chooses = at-chooses at at-lower gs i x refl
 
     -- what follows the count
     abbrev lowering : ℕ → Rule Answer
     lowering n = becomes alternation p (counting n (process-of (view t) p .alternation)) >> next p (disable-next gs i x)
 
-    pub lower-fault : {r : Reply} {u : List ℕ} → word-of t cores p 5 ≡ 0 → r ≡ four (no-because FAULT) → u ≡ t
+    pub lower-fault : {r : Reply} {u : List ℕ} → word-of t cores p process-count ≡ 0 → r ≡ four (no-because FAULT) → u ≡ t
         → Does (lower-step p gs i x) t r u
     lower-fault {r} {u} e a b =
         lowered-fault (view t) t lowering r u (process-of (view t) p .alternation .count) (sym (count-is lower-chooses) ∙ e) a b
 
-    pub lower-done : {r : Reply} {u : List ℕ} → (word-of t cores p 5 ≡ 0 → ⊥) → r ≡ four (yes-with MOVED)
-        → u ≡ next-table (set t (process-at cores p 5) (word-of t cores p 5 - 1)) cores p 17 19 → Does (lower-step p gs i x) t r u
+    pub lower-done : {r : Reply} {u : List ℕ} → (word-of t cores p process-count ≡ 0 → ⊥) → r ≡ four (yes-with MOVED)
+        → u ≡ next-table (set t (process-at cores p process-count) (word-of t cores p process-count - 1)) cores p at-disable at-finish → Does (lower-step p gs i x) t r u
     lower-done {r} {u} ne a b =
         let n = process-of (view t) p .alternation .count in
         lowered-on (view t) t lowering r u n (λ e. ne (count-is lower-chooses ∙ e)) (
           a,
           b ∙ disabled-packs (alternation-chooses lower-chooses (counting (n - 1) (process-of (view t) p .alternation))
-              ((3, word-of t cores p 5 - 1) ∷ []) tt (rw (count-is lower-chooses))),
+              ((in-alternation process-count, word-of t cores p process-count - 1) ∷ []) tt (rw (count-is lower-chooses))),
         )

@@ -15,7 +15,8 @@ use Rattle.rules.specs.Items.{core-of, process-of, put, alternation, progress}
 use Rattle.rules.specs.Rule.{Rule, run, done, the, becomes, _>>=_, _>>_}
 use Rattle.rules.specs.Steps.{has-task}
 use Rattle.rules.specs.Choice.{guard, counting, flags, lowered, finished, finish-step, trigger-step}
-use Rattle.rules.specs.Layout.{process-at}
+use Rattle.rules.specs.Layout.{process-at, at-finish, due-chose, guard-places, process-channel, process-count, process-first-ready}
+use Rattle.rules.specs.Layout.{process-not-ready, process-waiting, task-none, task-wake}
 use Rattle.rules.specs.Packing.{work-words, ready-number, progress-words, view}
 use Rattle.rules.specs.Soundness.{own-end, own-guards, ready-in-list}
 use Rattle.rules.proofs.Tests.{both, three, within-means}
@@ -28,28 +29,28 @@ use Rattle.parts.proofs.Card.{card-inside, card-process, work-valid, stage-vali
 use Rattle.parts.proofs.Packs.{Packs, IsProcess, card-packs, still-process, process-read, alternation-written, fresh-written, progress-cleared}
 use Rattle.parts.proofs.Packs.{task-written, asleep-written}
 use Rattle.parts.proofs.Flags.{set-flag, unset-flag}
-use Rattle.guards.specs.Read.{word-of, triggered-table}
-use Rattle.guards.proofs.Guards.{Chooses, at-chooses, ready-reads, guard-reads, count-is, alternation-chooses}
+use Rattle.guards.specs.Read.{word-of, guard-place, triggered-table}
+use Rattle.guards.proofs.Guards.{in-progress, in-alternation, Chooses, at-chooses, ready-reads, guard-reads, count-is, alternation-chooses}
 use Rattle.guards.proofs.Rules.{ready-range, first-fault, first-on, lowered-fault, lowered-on}
 
 -- Finish
 
 -- process p has chosen, and the outcome is due
 chose-due : {t : List ℕ} {cores processes : ℕ} {s : State} → Packs t cores processes s → (p : ℕ) → IsProcess s p → (c : ℕ)
-    → Packs (due-table t cores p 23 c) cores processes (put progress p (due (chose c)) s)
+    → Packs (due-table t cores p due-chose c) cores processes (put progress p (due (chose c)) s)
 unfolding progress-words
-chose-due packs p is c = fresh-written packs p is (due (chose c)) ((0, 23) ∷ (1, c) ∷ []) tt refl
+chose-due packs p is c = fresh-written packs p is (due (chose c)) ((0, due-chose) ∷ (in-progress process-channel, c) ∷ []) tt refl
 
 module _ {t : List ℕ} {cores processes k p : ℕ} {gs : List ℕ} {x : Option ℕ} (at : At t cores processes k p (finish gs x)) where
-  finish-chooses : Chooses t cores processes (view t) p 19 gs 0 x
+  finish-chooses : Chooses t cores processes (view t) p at-finish gs 0 x
   unfolding progress-words
-  finish-chooses = at-chooses at 19 gs 0 x refl
+  finish-chooses = at-chooses at at-finish gs 0 x refl
 
   finish-valid : T (own-guards (wiring (view t)) p gs) × T (ready-in-list gs x)
   finish-valid = both (own-guards (wiring (view t)) p gs) (ready-in-list gs x) (stage-valid t cores processes k p (finish gs x) at)
 
   -- the number of the first ready guard is one of the guards'
-  finish-range : (word-of t cores p 11 ≡ 0 → ⊥) → (1 ≤ ready-number x) × (ready-number x ≤ 8)
+  finish-range : (word-of t cores p process-first-ready ≡ 0 → ⊥) → (1 ≤ ready-number x) × (ready-number x ≤ guard-places)
   finish-range there =
       let list = three (within 1 8 (length gs)) (all (own-end (wiring (view t)) receiving p) gs) (distinct gs) (finish-valid .0) in
       let size = within-means 1 8 (length gs) (list .0) in
@@ -57,7 +58,7 @@ module _ {t : List ℕ} {cores processes k p : ℕ} {gs : List ℕ} {x : Option 
       (range .0, omega arith)
 
   -- the table has its word
-  pub finish-guard : (word-of t cores p 11 ≡ 0 → ⊥) → process-at cores p (11 + word-of t cores p 11) < length t
+  pub finish-guard : (word-of t cores p process-first-ready ≡ 0 → ⊥) → process-at cores p (guard-place (word-of t cores p process-first-ready)) < length t
   finish-guard there =
       let process : HasProcess t cores p = runs-process t cores processes k p (finish gs x) at in
       let range = finish-range there in
@@ -65,10 +66,10 @@ module _ {t : List ℕ} {cores processes k p : ℕ} {gs : List ℕ} {x : Option 
       omega arith
 
   -- and that word is the guard
-  chosen : (word-of t cores p 11 ≡ 0 → ⊥) → word-of t cores p (11 + word-of t cores p 11) ≡ guard gs (ready-number x)
+  chosen : (word-of t cores p process-first-ready ≡ 0 → ⊥) → word-of t cores p (guard-place (word-of t cores p process-first-ready)) ≡ guard gs (ready-number x)
   chosen there =
       let range = finish-range there in
-      ap (λ (j : ℕ). word-of t cores p (11 + j)) (ready-reads finish-chooses)
+      ap (λ (j : ℕ). word-of t cores p (guard-place j)) (ready-reads finish-chooses)
       ∙ guard-reads finish-chooses (ready-number x) (range .0) (range .1)
 
   abbrev finisher : Alternation
@@ -86,29 +87,29 @@ module _ {t : List ℕ} {cores processes k p : ℕ} {gs : List ℕ} {x : Option 
   less = put alternation p (counting (finisher .count - 1) finisher) (view t)
 
   -- no guard is ready
-  pub finish-none : {r : Reply} {u : List ℕ} → word-of t cores p 11 ≡ 0 → r ≡ four (no-because FAULT) → u ≡ t
+  pub finish-none : {r : Reply} {u : List ℕ} → word-of t cores p process-first-ready ≡ 0 → r ≡ four (no-because FAULT) → u ≡ t
       → Does (finish-step k p gs x) t r u
   finish-none {r} {u} e a b = first-fault (view t) t counted r u gs x (finish-valid .1) (sym (ready-reads finish-chooses) ∙ e) a b
 
-  module _ (there : word-of t cores p 11 ≡ 0 → ⊥) where
+  module _ (there : word-of t cores p process-first-ready ≡ 0 → ⊥) where
     -- a guard is ready
     one-ready : (r : Reply) (u : List ℕ) → Comes (run (counted (guard gs (ready-number x))) (view t)) t r u → Does (finish-step k p gs x) t r u
     one-ready r u h = first-on (view t) t counted r u gs x (λ e. there (ready-reads finish-chooses ∙ e)) h
 
     -- the count is 0
-    pub finish-fault : {r : Reply} {u : List ℕ} → word-of t cores p 5 ≡ 0 → r ≡ four (no-because FAULT) → u ≡ t
+    pub finish-fault : {r : Reply} {u : List ℕ} → word-of t cores p process-count ≡ 0 → r ≡ four (no-because FAULT) → u ≡ t
         → Does (finish-step k p gs x) t r u
     finish-fault {r} {u} e a b =
         one-ready r u
         (lowered-fault (view t) t (ending (guard gs (ready-number x))) r u (finisher .count) (sym (count-is finish-chooses) ∙ e) a b)
 
     -- it is lowered
-    finish-lowered : Chooses (set t (process-at cores p 5) (word-of t cores p 5 - 1)) cores processes less p 19 gs 0 x
+    finish-lowered : Chooses (set t (process-at cores p process-count) (word-of t cores p process-count - 1)) cores processes less p at-finish gs 0 x
     finish-lowered =
-        alternation-chooses finish-chooses (counting (finisher .count - 1) finisher) ((3, word-of t cores p 5 - 1) ∷ []) tt
+        alternation-chooses finish-chooses (counting (finisher .count - 1) finisher) ((in-alternation process-count, word-of t cores p process-count - 1) ∷ []) tt
         (rw (count-is finish-chooses))
 
-    ended : (r : Reply) (u : List ℕ) → (word-of t cores p 5 ≡ 0 → ⊥)
+    ended : (r : Reply) (u : List ℕ) → (word-of t cores p process-count ≡ 0 → ⊥)
         → Comes (run (finished k p (guard gs (ready-number x)) (finisher .count - 1)) less) t r u
         → Does (finish-step k p gs x) t r u
     ended r u ne h =
@@ -116,9 +117,9 @@ module _ {t : List ℕ} {cores processes k p : ℕ} {gs : List ℕ} {x : Option 
         (lowered-on (view t) t (ending (guard gs (ready-number x))) r u (finisher .count) (λ e. ne (count-is finish-chooses ∙ e)) h)
 
     -- to 0: the choice is over
-    pub finish-now : {r : Reply} {u : List ℕ} → word-of t cores p 5 ≡ 1
-        → r ≡ four (yes-with (CHOSE p (word-of t cores p (11 + word-of t cores p 11))))
-        → u ≡ cleared (set t (process-at cores p 5) (word-of t cores p 5 - 1)) cores p → Does (finish-step k p gs x) t r u
+    pub finish-now : {r : Reply} {u : List ℕ} → word-of t cores p process-count ≡ 1
+        → r ≡ four (yes-with (CHOSE p (word-of t cores p (guard-place (word-of t cores p process-first-ready)))))
+        → u ≡ cleared (set t (process-at cores p process-count) (word-of t cores p process-count - 1)) cores p → Does (finish-step k p gs x) t r u
     finish-now {r} {u} e a b =
         let one = count-is finish-chooses in
         let left : finisher .count - 1 ≡ 0 = omega arith in
@@ -128,24 +129,24 @@ module _ {t : List ℕ} {cores processes k p : ℕ} {gs : List ℕ} {x : Option 
         (a ∙ ap (λ (c : ℕ). four (yes-with (CHOSE p c))) (chosen there), b ∙ progress-cleared (finish-lowered .packs) p (finish-lowered .among) .is-pack))
 
   -- above 0: it sleeps. The words read are i and m, the tables on the way v and w.
-  pub finish-later : {r : Reply} {u v w : List ℕ} {i m c : ℕ} → i ≡ word-of t cores p 11 → m ≡ word-of t cores p 5
-      → (i ≡ 0 → ⊥) → (m ≡ 0 → ⊥) → (m ≡ 1 → ⊥) → c ≡ word-of t cores p (11 + i) → v ≡ set t (process-at cores p 5) (m - 1)
-      → w ≡ due-table v cores p 23 c → r ≡ four (yes-with (SLEPT p)) → u ≡ asleep-table w cores k p 0 0 → Does (finish-step k p gs x) t r u
+  pub finish-later : {r : Reply} {u v w : List ℕ} {i m c : ℕ} → i ≡ word-of t cores p process-first-ready → m ≡ word-of t cores p process-count
+      → (i ≡ 0 → ⊥) → (m ≡ 0 → ⊥) → (m ≡ 1 → ⊥) → c ≡ word-of t cores p (guard-place i) → v ≡ set t (process-at cores p process-count) (m - 1)
+      → w ≡ due-table v cores p due-chose c → r ≡ four (yes-with (SLEPT p)) → u ≡ asleep-table w cores k p task-none 0 → Does (finish-step k p gs x) t r u
   finish-later {r} {u} {v} {w} {i} {m} {c} ready read there ne more found first second a b =
-      let is-ready : word-of t cores p 11 ≡ 0 → ⊥ = λ e. there (ready ∙ e) in
+      let is-ready : word-of t cores p process-first-ready ≡ 0 → ⊥ = λ e. there (ready ∙ e) in
       let lower = finish-lowered is-ready in
       let count = count-is finish-chooses in
       let left : finisher .count - 1 ≡ suc (finisher .count - 2) = omega arith in
       let g : ℕ = guard gs (ready-number x) in
-      let due-there : w ≡ due-table (set t (process-at cores p 5) (word-of t cores p 5 - 1)) cores p 23 g =
-      let e : c ≡ g = found ∙ ap (λ (j : ℕ). word-of t cores p (11 + j)) ready ∙ chosen is-ready in
+      let due-there : w ≡ due-table (set t (process-at cores p process-count) (word-of t cores p process-count - 1)) cores p due-chose g =
+      let e : c ≡ g = found ∙ ap (λ (j : ℕ). word-of t cores p (guard-place j)) ready ∙ chosen is-ready in
       rw (second, first, read, e) in
       ended is-ready r u (λ e. ne (read ∙ e))
       (subst (λ (n : ℕ). Comes (run (finished k p g n) less) t r u) (sym left) (
         a,
-        b ∙ ap (λ (l : List ℕ). asleep-table l cores k p 0 0) due-there
+        b ∙ ap (λ (l : List ℕ). asleep-table l cores k p task-none 0) due-there
             ∙ asleep-written (chose-due (lower .packs) p (lower .among) g) k (card-inside (at .card)) p (still-process less p p _ (lower .among))
-            no-task 0 0 refl .is-pack,
+            no-task task-none 0 refl .is-pack,
       ))
 
 -- Trigger
@@ -161,11 +162,11 @@ module _ {t : List ℕ} {cores processes k q : ℕ} (card : Card t cores process
   abbrev triggered : Alternation
   triggered = process-of (view t) q .alternation
 
-  trigger-count : word-of t cores q 5 ≡ triggered .count
-  trigger-count = process-read (card-packs card) q trigger-among 5 (lit< tt)
+  trigger-count : word-of t cores q process-count ≡ triggered .count
+  trigger-count = process-read (card-packs card) q trigger-among process-count (lit< tt)
 
-  trigger-waiting : word-of t cores q 4 ≡ bit (triggered .waiting)
-  trigger-waiting = process-read (card-packs card) q trigger-among 4 (lit< tt)
+  trigger-waiting : word-of t cores q process-waiting ≡ bit (triggered .waiting)
+  trigger-waiting = process-read (card-packs card) q trigger-among process-waiting (lit< tt)
 
   -- what follows the count
   abbrev triggering : ℕ → Rule Answer
@@ -173,14 +174,14 @@ module _ {t : List ℕ} {cores processes k q : ℕ} (card : Card t cores process
       becomes alternation q (flags (triggered .enabling) false false (counting n triggered))
       >> (has-task k (if triggered .waiting || eqb n 0 then wake-up q else no-task) >> done MOVED)
 
-  pub trigger-fault : {r : Reply} {u : List ℕ} → word-of t cores q 5 ≡ 0 → r ≡ four (no-because FAULT) → u ≡ t → Does (trigger-step k q) t r u
+  pub trigger-fault : {r : Reply} {u : List ℕ} → word-of t cores q process-count ≡ 0 → r ≡ four (no-because FAULT) → u ≡ t → Does (trigger-step k q) t r u
   trigger-fault {r} {u} e a b = lowered-fault (view t) t triggering r u (triggered .count) (sym trigger-count ∙ e) a b
 
   -- The count read is m, the table on the way v. By the words of the task that comes next:
   module _ {r : Reply} {u v : List ℕ} {m : ℕ} where
     trigger-done : (task p : ℕ)
         → work-words (free (if triggered .waiting || eqb (triggered .count - 1) 0 then wake-up q else no-task)) ≡ 0 ∷ task ∷ p ∷ []
-        → (word-of t cores q 5 ≡ 0 → ⊥) → m ≡ word-of t cores q 5 → v ≡ triggered-table t cores q (m - 1) → r ≡ four (yes-with MOVED)
+        → (word-of t cores q process-count ≡ 0 → ⊥) → m ≡ word-of t cores q process-count → v ≡ triggered-table t cores q (m - 1) → r ≡ four (yes-with MOVED)
         → u ≡ task-table v k task p → Does (trigger-step k q) t r u
     trigger-done task p words ne read first a b =
         let n = triggered .count - 1 in
@@ -189,31 +190,31 @@ module _ {t : List ℕ} {cores processes k q : ℕ} (card : Card t cores process
           a,
           b ∙ ap (λ (l : List ℕ). task-table l k task p) first
               ∙ task-written (alternation-written (card-packs card) q trigger-among (flags (triggered .enabling) false false (counting n triggered))
-              ((1, 0) ∷ (2, 0) ∷ (3, m - 1) ∷ []) tt (rw count)) k (card-inside card)
+              ((in-alternation process-not-ready, 0) ∷ (in-alternation process-waiting, 0) ∷ (in-alternation process-count, m - 1) ∷ []) tt (rw count)) k (card-inside card)
               (if triggered .waiting || eqb n 0 then wake-up q else no-task) task p words .is-pack,
         )
 
     -- waiting had been set
-    pub trigger-waited : word-of t cores q 4 ≡ 1 → (word-of t cores q 5 ≡ 0 → ⊥) → m ≡ word-of t cores q 5
-        → v ≡ triggered-table t cores q (m - 1) → r ≡ four (yes-with MOVED) → u ≡ task-table v k 2 q → Does (trigger-step k q) t r u
-    trigger-waited e = let reads = trigger-waiting in trigger-done 2 q (rw (set-flag (triggered .waiting) (λ z. omega arith)))
+    pub trigger-waited : word-of t cores q process-waiting ≡ 1 → (word-of t cores q process-count ≡ 0 → ⊥) → m ≡ word-of t cores q process-count
+        → v ≡ triggered-table t cores q (m - 1) → r ≡ four (yes-with MOVED) → u ≡ task-table v k task-wake q → Does (trigger-step k q) t r u
+    trigger-waited e = let reads = trigger-waiting in trigger-done task-wake q (rw (set-flag (triggered .waiting) (λ z. omega arith)))
 
     -- the new count is 0
-    pub trigger-last : word-of t cores q 5 ≡ 1 → (word-of t cores q 5 ≡ 0 → ⊥) → m ≡ word-of t cores q 5
-        → v ≡ triggered-table t cores q (m - 1) → r ≡ four (yes-with MOVED) → u ≡ task-table v k 2 q → Does (trigger-step k q) t r u
+    pub trigger-last : word-of t cores q process-count ≡ 1 → (word-of t cores q process-count ≡ 0 → ⊥) → m ≡ word-of t cores q process-count
+        → v ≡ triggered-table t cores q (m - 1) → r ≡ four (yes-with MOVED) → u ≡ task-table v k task-wake q → Does (trigger-step k q) t r u
     trigger-last e =
         let reads = trigger-count in
-        trigger-done 2 q (rw (eq-eqb (triggered .count - 1) 0 (omega arith)) (either (triggered .waiting)))
+        trigger-done task-wake q (rw (eq-eqb (triggered .count - 1) 0 (omega arith)) (either (triggered .waiting)))
       where
-        either : (y : Bool) → work-words (free (if y || true then wake-up q else no-task)) ≡ 0 ∷ 2 ∷ q ∷ []
+        either : (y : Bool) → work-words (free (if y || true then wake-up q else no-task)) ≡ 0 ∷ task-wake ∷ q ∷ []
         either true = refl
         either false = refl
 
     -- neither
-    pub trigger-over : (word-of t cores q 4 ≡ 1 → ⊥) → (word-of t cores q 5 ≡ 1 → ⊥) → (word-of t cores q 5 ≡ 0 → ⊥)
-        → m ≡ word-of t cores q 5 → v ≡ triggered-table t cores q (m - 1) → r ≡ four (yes-with MOVED) → u ≡ task-table v k 0 0
+    pub trigger-over : (word-of t cores q process-waiting ≡ 1 → ⊥) → (word-of t cores q process-count ≡ 1 → ⊥) → (word-of t cores q process-count ≡ 0 → ⊥)
+        → m ≡ word-of t cores q process-count → v ≡ triggered-table t cores q (m - 1) → r ≡ four (yes-with MOVED) → u ≡ task-table v k task-none 0
         → Does (trigger-step k q) t r u
     trigger-over calm more ne =
         let count = trigger-count in
-        trigger-done 0 0
+        trigger-done task-none 0
         (rw (unset-flag (triggered .waiting) (λ e. calm (trigger-waiting ∙ e)), ne-eqb (triggered .count - 1) 0 (λ z. omega arith))) ne

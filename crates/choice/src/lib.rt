@@ -25,24 +25,23 @@ fn set_flags(t: &mut [u32], cores: usize, p: u32, enabling: u32, unready: u32, w
     requires { ⌜ HasProcess (now t) cores p ⌝ }
     ensures { λ r. ⌜ now (t .exit) ≡ flags-table (now (t .entry)) cores p enabling unready waiting ⌝ }
 {
-    let i = p as usize;
-    t[8 + 16 * cores + 24 * (i - 1) + 2] = enabling;
-    t[8 + 16 * cores + 24 * (i - 1) + 3] = unready;
-    t[8 + 16 * cores + 24 * (i - 1) + 4] = waiting;
+    table::set_process_word(t, cores, p, layout::PROCESS_ENABLING, enabling);
+    table::set_process_word(t, cores, p, layout::PROCESS_NOT_READY, unready);
+    table::set_process_word(t, cores, p, layout::PROCESS_WAITING, waiting);
 }
 
 // Wait: if not-ready is set, clear enabling and not-ready, set waiting, asleep; otherwise clear enabling. Disabling comes next.
-pub fn wait_for(t: &mut [u32], cores: usize, processes: usize, k: usize, p: u32) -> Reply
+pub fn wait_step(t: &mut [u32], cores: usize, processes: usize, k: usize, p: u32) -> Reply
     requires { ⌜ At (now t) cores processes k p (wait (guards-at (now t) cores p)) ⌝ }
     ensures { λ r. ⌜ Does (wait-step k p (guards-at (now (t .entry)) cores p)) (now (t .entry)) r (now (t .exit)) ⌝ }
 {
-    if table::process_word(t, cores, p, 3) == 0 {
-        table::set_process_word(t, cores, p, 2, 0);
-        guards::goes_on(t, cores, p, 1, 17)
+    if table::process_word(t, cores, p, layout::PROCESS_NOT_READY) == 0 {
+        table::set_process_word(t, cores, p, layout::PROCESS_ENABLING, 0);
+        guards::goes_on(t, cores, p, 1, layout::AT_DISABLE)
     } else {
         set_flags(t, cores, p, 0, 0, 1);
-        guards::set_stage(t, cores, p, 1, 17);
-        parts::falls_asleep(t, cores, k, p, 0, 0)
+        guards::set_stage(t, cores, p, 1, layout::AT_DISABLE);
+        parts::falls_asleep(t, cores, k, p, layout::TASK_NONE, 0)
     }
 }
 
@@ -59,14 +58,20 @@ fn goes_on_ready(t: &mut [u32], cores: usize, p: u32, again: u32, after: u32) ->
     ensures table { λ r. ⌜ now (t .exit) ≡ next-table (kept-table (now (t .entry)) cores p) cores p again after ⌝ }
     ensures reply { λ r. ⌜ r ≡ four (yes-with MOVED) ⌝ }
 {
-    let kept = table::process_word(t, cores, p, 11);
-    let i = table::process_word(t, cores, p, 10);
-    table::set_process_word(t, cores, p, 11, first_ready(kept, i));
+    let kept = table::process_word(t, cores, p, layout::PROCESS_FIRST_READY);
+    let i = table::process_word(t, cores, p, layout::PROCESS_INDEX);
+    table::set_process_word(
+        t,
+        cores,
+        p,
+        layout::PROCESS_FIRST_READY,
+        first_ready(kept, i),
+    );
     guards::next_guard(t, cores, p, again, after)
 }
 
 // Disable: one's own name becomes 0, next lower; a process's plain name: the guard is ready, the first such is kept; otherwise not.
-pub fn disable_guard(t: &mut [u32], cores: usize, processes: usize, k: usize, p: u32) -> Reply
+pub fn disable_step(t: &mut [u32], cores: usize, processes: usize, k: usize, p: u32) -> Reply
     requires { ⌜ At (now t) cores processes k p (disable (guards-at (now t) cores p) (index-at (now t) cores p) (ready-at (now t) cores p)) ⌝ }
     ensures { λ r. ⌜ Does
         (disable-step p (guards-at (now (t .entry)) cores p) (index-at (now (t .entry)) cores p) (ready-at (now (t .entry)) cores p))
@@ -74,41 +79,41 @@ pub fn disable_guard(t: &mut [u32], cores: usize, processes: usize, k: usize, p:
 {
     let found = words::who_stands(guards::guard_word(t, cores, processes, p));
     match found {
-        Holder::Nobody => guards::next_guard(t, cores, p, 17, 19),
-        Holder::Plain(_) => goes_on_ready(t, cores, p, 17, 19),
+        Holder::Nobody => guards::next_guard(t, cores, p, layout::AT_DISABLE, layout::AT_FINISH),
+        Holder::Plain(_) => goes_on_ready(t, cores, p, layout::AT_DISABLE, layout::AT_FINISH),
         Holder::Choosing(q) => {
             if q == p {
                 guards::set_guard_word(t, cores, processes, p, 0);
-                parts::move_on(t, cores, p, 18)
+                parts::move_on(t, cores, p, layout::AT_LOWER)
             } else {
-                guards::next_guard(t, cores, p, 17, 19)
+                guards::next_guard(t, cores, p, layout::AT_DISABLE, layout::AT_FINISH)
             }
         }
     }
 }
 
 // Lower: count - 1.
-pub fn lower_count(t: &mut [u32], cores: usize, processes: usize, k: usize, p: u32) -> Reply
+pub fn lower_step(t: &mut [u32], cores: usize, processes: usize, k: usize, p: u32) -> Reply
     requires { ⌜ At (now t) cores processes k p (lower (guards-at (now t) cores p) (index-at (now t) cores p) (ready-at (now t) cores p)) ⌝ }
     ensures { λ r. ⌜ Does (lower-step p (guards-at (now (t .entry)) cores p) (index-at (now (t .entry)) cores p) (ready-at (now (t .entry)) cores p))
         (now (t .entry)) r (now (t .exit)) ⌝ }
 {
-    let count = table::process_word(t, cores, p, 5);
+    let count = table::process_word(t, cores, p, layout::PROCESS_COUNT);
     if count == 0 {
         return answers::refused(answers::FAULT);
     }
-    table::set_process_word(t, cores, p, 5, count - 1);
-    guards::next_guard(t, cores, p, 17, 19)
+    table::set_process_word(t, cores, p, layout::PROCESS_COUNT, count - 1);
+    guards::next_guard(t, cores, p, layout::AT_DISABLE, layout::AT_FINISH)
 }
 
 // Finish: no ready guard is a fault; count - 1; at 0 CHOSE with the first ready guard; above 0 asleep, with CHOSE due.
-pub fn finish_choice(t: &mut [u32], cores: usize, processes: usize, k: usize, p: u32) -> Reply
+pub fn finish_step(t: &mut [u32], cores: usize, processes: usize, k: usize, p: u32) -> Reply
     requires { ⌜ At (now t) cores processes k p (finish (guards-at (now t) cores p) (ready-at (now t) cores p)) ⌝ }
     ensures { λ r. ⌜ Does (finish-step k p (guards-at (now (t .entry)) cores p) (ready-at (now (t .entry)) cores p))
         (now (t .entry)) r (now (t .exit)) ⌝ }
 {
-    let ready = table::process_word(t, cores, p, 11);
-    let count = table::process_word(t, cores, p, 5);
+    let ready = table::process_word(t, cores, p, layout::PROCESS_FIRST_READY);
+    let count = table::process_word(t, cores, p, layout::PROCESS_COUNT);
     if ready == 0 {
         return answers::refused(answers::FAULT);
     }
@@ -116,12 +121,12 @@ pub fn finish_choice(t: &mut [u32], cores: usize, processes: usize, k: usize, p:
         return answers::refused(answers::FAULT);
     }
     let c = guards::guard(t, cores, p, ready);
-    table::set_process_word(t, cores, p, 5, count - 1);
+    table::set_process_word(t, cores, p, layout::PROCESS_COUNT, count - 1);
     if count == 1 {
-        parts::reports(t, cores, p, 23, c)
+        parts::reports(t, cores, p, layout::DUE_CHOSE, c)
     } else {
-        parts::set_due(t, cores, p, 23, c);
-        parts::falls_asleep(t, cores, k, p, 0, 0)
+        parts::set_due(t, cores, p, layout::DUE_CHOSE, c);
+        parts::falls_asleep(t, cores, k, p, layout::TASK_NONE, 0)
     }
 }
 
@@ -130,10 +135,9 @@ fn set_triggered(t: &mut [u32], cores: usize, q: u32, n: u32)
     requires { ⌜ HasProcess (now t) cores q ⌝ }
     ensures { λ r. ⌜ now (t .exit) ≡ triggered-table (now (t .entry)) cores q n ⌝ }
 {
-    let i = q as usize;
-    t[8 + 16 * cores + 24 * (i - 1) + 3] = 0;
-    t[8 + 16 * cores + 24 * (i - 1) + 4] = 0;
-    t[8 + 16 * cores + 24 * (i - 1) + 5] = n;
+    table::set_process_word(t, cores, q, layout::PROCESS_NOT_READY, 0);
+    table::set_process_word(t, cores, q, layout::PROCESS_WAITING, 0);
+    table::set_process_word(t, cores, q, layout::PROCESS_COUNT, n);
 }
 
 // Core k has a task next.
@@ -148,22 +152,22 @@ fn next_task(t: &mut [u32], k: usize, task: u32, q: u32) -> Reply
 
 // Trigger q, a kernel task: clear q's not-ready and waiting, count - 1. Where waiting had been set or the new count is 0, the task is
 // then to wake q; otherwise it is over.
-pub fn trigger_choice(t: &mut [u32], cores: usize, processes: usize, k: usize, q: u32) -> Reply
+pub fn trigger_step(t: &mut [u32], cores: usize, processes: usize, k: usize, q: u32) -> Reply
     requires { ⌜ Card (now t) cores processes k ⌝ ∗ ⌜ core-of (view (now t)) k .work ≡ free (trigger q) ⌝ }
     ensures { λ r. ⌜ Does (trigger-step k q) (now (t .entry)) r (now (t .exit)) ⌝ }
 {
-    let count = table::process_word(t, cores, q, 5);
+    let count = table::process_word(t, cores, q, layout::PROCESS_COUNT);
     if count == 0 {
         return answers::refused(answers::FAULT);
     }
     let left = count - 1;
-    let waiting = table::process_word(t, cores, q, 4);
+    let waiting = table::process_word(t, cores, q, layout::PROCESS_WAITING);
     set_triggered(t, cores, q, left);
     if waiting == 1 {
-        return next_task(t, k, 2, q);
+        return next_task(t, k, layout::TASK_WAKE, q);
     }
     if left == 0 {
-        return next_task(t, k, 2, q);
+        return next_task(t, k, layout::TASK_WAKE, q);
     }
-    next_task(t, k, 0, 0)
+    next_task(t, k, layout::TASK_NONE, 0)
 }

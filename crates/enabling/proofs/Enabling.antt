@@ -13,46 +13,47 @@ use Rattle.rules.specs.Rule.{Rule, run, becomes, _>>_}
 use Rattle.rules.specs.Steps.{next}
 use Rattle.rules.specs.Choice.{guard, counting, flags, enable-next, after-enable-look, enable-look-step, name-placed, place-name-step, raise-step}
 use Rattle.rules.specs.Choice.{ready-from-look-step, ready-from-place-step}
-use Rattle.rules.specs.Layout.{process-at, channel-at}
+use Rattle.rules.specs.Layout.{process-at, channel-at, at-enable-look, at-place-name, at-raise, at-ready-from-look, at-ready-from-place}
+use Rattle.rules.specs.Layout.{at-wait, channel-holder, process-count, process-not-ready, process-progress}
 use Rattle.rules.specs.Packing.{of-choice, progress-words, pack, view, word-number}
 use Rattle.answers.specs.Four.{four}
 use Rattle.answers.specs.declared.Reply.{Reply}
 use Rattle.parts.specs.Does.{At, Comes, Does}
 use Rattle.parts.proofs.Card.{facts, stage-valid}
 use Rattle.guards.specs.Read.{word-of, guard-word-at, AtGuard, next-table}
-use Rattle.guards.proofs.Guards.{Chooses, at-chooses, count-is, same-guard, next-packs, alternation-chooses, word-chooses}
+use Rattle.guards.proofs.Guards.{in-alternation, Chooses, at-chooses, count-is, same-guard, next-packs, alternation-chooses, word-chooses}
 use Rattle.guards.proofs.Rules.{lowered-fault, lowered-on, raised-fault, raised-on}
 use Rattle.guards.proofs.Stands.{Stands, enabling-stands, guard-among, guard-is, has-guard, word-is, free-word, number-small}
 
 -- From a guard that is enabled the choice goes to the next.
 enabled-packs : {t : List ℕ} {cores processes : ℕ} {s : State} {p n : ℕ} {gs : List ℕ} {i : ℕ} → Chooses t cores processes s p n gs i none
-    → next-table t cores p 11 16 ≡ pack (put progress p (doing (enable-next gs i)) s)
+    → next-table t cores p at-enable-look at-wait ≡ pack (put progress p (doing (enable-next gs i)) s)
 unfolding progress-words
-enabled-packs {gs = gs} {i} h = next-packs h (enable-look gs (i + 1)) (wait gs) 11 16 refl refl
+enabled-packs {gs = gs} {i} h = next-packs h (enable-look gs (i + 1)) (wait gs) at-enable-look at-wait refl refl
 
 module _ {t : List ℕ} {cores processes k p : ℕ} {gs : List ℕ} {i : ℕ} where
   -- Look
 
   module _ (at : At t cores processes k p (enable-look gs i)) where
-    look-stands : Stands t cores processes k p 11 gs i none
+    look-stands : Stands t cores processes k p at-enable-look gs i none
     unfolding progress-words
-    look-stands = enabling-stands at 11 gs i refl (stage-valid t cores processes k p (enable-look gs i) at)
+    look-stands = enabling-stands at at-enable-look gs i refl (stage-valid t cores processes k p (enable-look gs i) at)
 
     pub look-guard : AtGuard t cores processes p
     look-guard = has-guard look-stands
 
     -- the word is nobody's
     pub look-free : {r : Reply} {u : List ℕ} → getD t (guard-word-at t cores processes p) 0 ≡ 0 → r ≡ four (yes-with MOVED)
-        → u ≡ set t (process-at cores p 6) 12 → Does (enable-look-step p gs i) t r u
+        → u ≡ set t (process-at cores p process-progress) at-raise → Does (enable-look-step p gs i) t r u
     unfolding progress-words
-    look-free e a b = (a, b ∙ same-guard (look-stands .chooses) (after-enable-look gs i (channel-of (view t) (guard gs i) .word)) 12 words)
+    look-free e a b = (a, b ∙ same-guard (look-stands .chooses) (after-enable-look gs i (channel-of (view t) (guard gs i) .word)) at-raise words)
       where
-        words : progress-words (doing (after-enable-look gs i (channel-of (view t) (guard gs i) .word))) ≡ of-choice 12 gs i none
+        words : progress-words (doing (after-enable-look gs i (channel-of (view t) (guard gs i) .word))) ≡ of-choice at-raise gs i none
         words = rw (free-word look-stands e)
 
     -- it is somebody's
     pub look-held : {r : Reply} {u : List ℕ} → (getD t (guard-word-at t cores processes p) 0 ≡ 0 → ⊥) → r ≡ four (yes-with MOVED)
-        → u ≡ set t (process-at cores p 6) 14 → Does (enable-look-step p gs i) t r u
+        → u ≡ set t (process-at cores p process-progress) at-ready-from-look → Does (enable-look-step p gs i) t r u
     unfolding progress-words
     look-held ne a b = (
       a,
@@ -60,7 +61,7 @@ module _ {t : List ℕ} {cores processes k p : ℕ} {gs : List ℕ} {i : ℕ} wh
           (words (channel-of (view t) (guard gs i) .word) (λ e. ne (word-is look-stands ∙ e))),
     )
       where
-        words : (w : ChannelWord) → (word-number w ≡ 0 → ⊥) → progress-words (doing (after-enable-look gs i w)) ≡ of-choice 14 gs i none
+        words : (w : ChannelWord) → (word-number w ≡ 0 → ⊥) → progress-words (doing (after-enable-look gs i w)) ≡ of-choice at-ready-from-look gs i none
         words nobody some = absurd (some refl)
         words (plain q) some = refl
         words (choosing q) some = refl
@@ -68,11 +69,11 @@ module _ {t : List ℕ} {cores processes k p : ℕ} {gs : List ℕ} {i : ℕ} wh
   -- Raise
 
   module _ (at : At t cores processes k p (raise gs i)) where
-    raise-chooses : Chooses t cores processes (view t) p 12 gs i none
+    raise-chooses : Chooses t cores processes (view t) p at-raise gs i none
     unfolding progress-words
-    raise-chooses = at-chooses at 12 gs i none refl
+    raise-chooses = at-chooses at at-raise gs i none refl
 
-    pub raise-small : word-of t cores p 5 ≤ 9
+    pub raise-small : word-of t cores p process-count ≤ 9
     raise-small =
         let among = raise-chooses .among in
         rw (count-is raise-chooses) (facts t (at .card .is-sound) .processes p (among .0) (among .1) .count)
@@ -82,29 +83,29 @@ module _ {t : List ℕ} {cores processes k p : ℕ} {gs : List ℕ} {i : ℕ} wh
     raising n = becomes alternation p (counting n (process-of (view t) p .alternation)) >> next p (place-name gs i)
 
     -- the count is 9
-    pub raise-fault : {r : Reply} {u : List ℕ} → word-of t cores p 5 ≡ 9 → r ≡ four (no-because FAULT) → u ≡ t
+    pub raise-fault : {r : Reply} {u : List ℕ} → word-of t cores p process-count ≡ 9 → r ≡ four (no-because FAULT) → u ≡ t
         → Does (raise-step p gs i) t r u
     raise-fault {r} {u} e a b =
         raised-fault (view t) t raising r u (process-of (view t) p .alternation .count) (sym (count-is raise-chooses) ∙ e) a b
 
     -- it is less
-    pub raise-done : {r : Reply} {u : List ℕ} → (word-of t cores p 5 ≡ 9 → ⊥) → r ≡ four (yes-with MOVED)
-        → u ≡ set (set t (process-at cores p 5) (word-of t cores p 5 + 1)) (process-at cores p 6) 13 → Does (raise-step p gs i) t r u
+    pub raise-done : {r : Reply} {u : List ℕ} → (word-of t cores p process-count ≡ 9 → ⊥) → r ≡ four (yes-with MOVED)
+        → u ≡ set (set t (process-at cores p process-count) (word-of t cores p process-count + 1)) (process-at cores p process-progress) at-place-name → Does (raise-step p gs i) t r u
     unfolding progress-words
     raise-done {r} {u} ne a b =
         let alt = process-of (view t) p .alternation in
         raised-on (view t) t raising r u (alt .count) (λ e. ne (count-is raise-chooses ∙ e)) (
           a,
           b ∙ same-guard (alternation-chooses raise-chooses (counting (alt .count + 1) alt)
-              ((3, word-of t cores p 5 + 1) ∷ []) tt (rw (count-is raise-chooses))) (place-name gs i) 13 refl,
+              ((in-alternation process-count, word-of t cores p process-count + 1) ∷ []) tt (rw (count-is raise-chooses))) (place-name gs i) at-place-name refl,
         )
 
   -- Place
 
   module _ (at : At t cores processes k p (place-name gs i)) where
-    place-stands : Stands t cores processes k p 13 gs i none
+    place-stands : Stands t cores processes k p at-place-name gs i none
     unfolding progress-words
-    place-stands = enabling-stands at 13 gs i refl (stage-valid t cores processes k p (place-name gs i) at)
+    place-stands = enabling-stands at at-place-name gs i refl (stage-valid t cores processes k p (place-name gs i) at)
 
     pub place-guard : AtGuard t cores processes p
     place-guard = has-guard place-stands
@@ -114,22 +115,22 @@ module _ {t : List ℕ} {cores processes k p : ℕ} {gs : List ℕ} {i : ℕ} wh
 
     -- the word is nobody's
     pub place-free : {r : Reply} {u : List ℕ} → getD t (guard-word-at t cores processes p) 0 ≡ 0 → r ≡ four (yes-with MOVED)
-        → u ≡ next-table (set t (guard-word-at t cores processes p) (word-number (choosing p))) cores p 11 16 → Does (place-name-step p gs i) t r u
+        → u ≡ next-table (set t (guard-word-at t cores processes p) (word-number (choosing p))) cores p at-enable-look at-wait → Does (place-name-step p gs i) t r u
     place-free {r} {u} e a b =
         subst (λ (w : ChannelWord). Comes (run (name-placed p gs i w) (view t)) t r u) (sym (free-word place-stands e)) (
           a,
-          b ∙ ap (λ (c : ℕ). next-table (set t (channel-at cores processes c 2) (word-number (choosing p))) cores p 11 16) (guard-is place-stands)
+          b ∙ ap (λ (c : ℕ). next-table (set t (channel-at cores processes c channel-holder) (word-number (choosing p))) cores p at-enable-look at-wait) (guard-is place-stands)
               ∙ enabled-packs (word-chooses (place-stands .chooses) (guard gs i) (guard-among place-stands) (choosing p)),
         )
 
     -- it is somebody's
     pub place-held : {r : Reply} {u : List ℕ} → (getD t (guard-word-at t cores processes p) 0 ≡ 0 → ⊥) → r ≡ four (yes-with MOVED)
-        → u ≡ set t (process-at cores p 6) 15 → Does (place-name-step p gs i) t r u
+        → u ≡ set t (process-at cores p process-progress) at-ready-from-place → Does (place-name-step p gs i) t r u
     unfolding progress-words
     place-held {r} {u} ne a b = cases (channel-of (view t) (guard gs i) .word) (λ e. ne (word-is place-stands ∙ e))
       where
         ready : u ≡ pack (put progress p (doing (ready-from-place gs i)) (view t))
-        ready = b ∙ same-guard (place-stands .chooses) (ready-from-place gs i) 15 refl
+        ready = b ∙ same-guard (place-stands .chooses) (ready-from-place gs i) at-ready-from-place refl
 
         cases : (w : ChannelWord) → (word-number w ≡ 0 → ⊥) → Comes (run (name-placed p gs i w) (view t)) t r u
         cases nobody some = absurd (some refl)
@@ -139,20 +140,20 @@ module _ {t : List ℕ} {cores processes k p : ℕ} {gs : List ℕ} {i : ℕ} wh
   -- Ready
 
   module _ (at : At t cores processes k p (ready-from-look gs i)) where
-    ready-look-chooses : Chooses t cores processes (view t) p 14 gs i none
+    ready-look-chooses : Chooses t cores processes (view t) p at-ready-from-look gs i none
     unfolding progress-words
-    ready-look-chooses = at-chooses at 14 gs i none refl
+    ready-look-chooses = at-chooses at at-ready-from-look gs i none refl
 
-    pub ready-look-done : {r : Reply} {u : List ℕ} → r ≡ four (yes-with MOVED) → u ≡ next-table (set t (process-at cores p 3) 0) cores p 11 16
+    pub ready-look-done : {r : Reply} {u : List ℕ} → r ≡ four (yes-with MOVED) → u ≡ next-table (set t (process-at cores p process-not-ready) 0) cores p at-enable-look at-wait
         → Does (ready-from-look-step p gs i) t r u
     ready-look-done a b =
         let alt = process-of (view t) p .alternation in
-        (a, b ∙ enabled-packs (alternation-chooses ready-look-chooses (flags (alt .enabling) false (alt .waiting) alt) ((1, 0) ∷ []) tt refl))
+        (a, b ∙ enabled-packs (alternation-chooses ready-look-chooses (flags (alt .enabling) false (alt .waiting) alt) ((in-alternation process-not-ready, 0) ∷ []) tt refl))
 
   module _ (at : At t cores processes k p (ready-from-place gs i)) where
-    ready-place-chooses : Chooses t cores processes (view t) p 15 gs i none
+    ready-place-chooses : Chooses t cores processes (view t) p at-ready-from-place gs i none
     unfolding progress-words
-    ready-place-chooses = at-chooses at 15 gs i none refl
+    ready-place-chooses = at-chooses at at-ready-from-place gs i none refl
 
     -- its alternation state with another count, and ready
     abbrev readied : ℕ → Alternation
@@ -161,17 +162,17 @@ module _ {t : List ℕ} {cores processes k p : ℕ} {gs : List ℕ} {i : ℕ} wh
     abbrev readying : ℕ → Rule Answer
     readying n = becomes alternation p (readied n) >> next p (enable-next gs i)
 
-    pub ready-place-fault : {r : Reply} {u : List ℕ} → word-of t cores p 5 ≡ 0 → r ≡ four (no-because FAULT) → u ≡ t
+    pub ready-place-fault : {r : Reply} {u : List ℕ} → word-of t cores p process-count ≡ 0 → r ≡ four (no-because FAULT) → u ≡ t
         → Does (ready-from-place-step p gs i) t r u
     ready-place-fault {r} {u} e a b =
         lowered-fault (view t) t readying r u (process-of (view t) p .alternation .count) (sym (count-is ready-place-chooses) ∙ e) a b
 
-    pub ready-place-done : {r : Reply} {u : List ℕ} → (word-of t cores p 5 ≡ 0 → ⊥) → r ≡ four (yes-with MOVED)
-        → u ≡ next-table (set (set t (process-at cores p 3) 0) (process-at cores p 5) (word-of t cores p 5 - 1)) cores p 11 16
+    pub ready-place-done : {r : Reply} {u : List ℕ} → (word-of t cores p process-count ≡ 0 → ⊥) → r ≡ four (yes-with MOVED)
+        → u ≡ next-table (set (set t (process-at cores p process-not-ready) 0) (process-at cores p process-count) (word-of t cores p process-count - 1)) cores p at-enable-look at-wait
         → Does (ready-from-place-step p gs i) t r u
     ready-place-done {r} {u} ne a b =
         lowered-on (view t) t readying r u (process-of (view t) p .alternation .count) (λ e. ne (count-is ready-place-chooses ∙ e)) (
           a,
           b ∙ enabled-packs (alternation-chooses ready-place-chooses (readied (process-of (view t) p .alternation .count - 1))
-              ((1, 0) ∷ (3, word-of t cores p 5 - 1) ∷ []) tt (rw (count-is ready-place-chooses))),
+              ((in-alternation process-not-ready, 0) ∷ (in-alternation process-count, word-of t cores p process-count - 1) ∷ []) tt (rw (count-is ready-place-chooses))),
         )

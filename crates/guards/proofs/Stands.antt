@@ -10,6 +10,7 @@ use Rattle.rules.specs.Lists.{within, all, distinct}
 use Rattle.rules.specs.State.{receiving, Stage, doing, nobody, wiring}
 use Rattle.rules.specs.Items.{channel-of}
 use Rattle.rules.specs.Choice.{guard}
+use Rattle.rules.specs.Layout.{channel-holder}
 use Rattle.rules.specs.Packing.{of-choice, progress-words, view, word-number, word-numbered}
 use Rattle.rules.specs.Soundness.{own-end, own-guards, in-list, ready-in-list, valid-enabling, valid-disabling, valid-word}
 use Rattle.rules.proofs.Tests.{both, three, within-means}
@@ -17,7 +18,7 @@ use Rattle.parts.specs.Does.{Card, At}
 use Rattle.parts.proofs.Card.{facts, card-core, card-process, card-channel, name-fits, runs-process}
 use Rattle.parts.proofs.Packs.{IsChannel, channel-read, who-stands}
 use Rattle.table.specs.Has.{HasCore, HasProcess, HasChannel}
-use Rattle.guards.specs.Read.{word-of, guard-at, guard-word-at, AtGuard}
+use Rattle.guards.specs.Read.{word-of, guard-place, guard-at, guard-word-at, AtGuard}
 use Rattle.guards.proofs.Rules.{word-nobody}
 use Rattle.guards.proofs.Guards.{Chooses, at-chooses, guard-range, index-reads, guard-reads}
 
@@ -66,7 +67,7 @@ module _ {t : List ℕ} {cores processes k p n : ℕ} {gs : List ℕ} {i : ℕ} 
   pub guard-is : guard-at t cores p ≡ guard gs i
   guard-is =
       let range = index-range in
-      ap (λ (j : ℕ). word-of t cores p (11 + j)) (index-reads (h .chooses))
+      ap (λ (j : ℕ). word-of t cores p (guard-place j)) (index-reads (h .chooses))
       ∙ guard-reads (h .chooses) i (range .0) (omega arith)
 
   -- the table has its words
@@ -88,7 +89,7 @@ module _ {t : List ℕ} {cores processes k p n : ℕ} {gs : List ℕ} {i : ℕ} 
   word-valid = facts t (h .card .is-sound) .channels (guard gs i) (guard-among .0) (guard-among .1) .word
 
   pub word-is : getD t (guard-word-at t cores processes p) 0 ≡ word-number (channel-of (view t) (guard gs i) .word)
-  word-is = rw guard-is (channel-read (h .chooses .packs) (guard gs i) guard-among 2 (lit< tt))
+  word-is = rw guard-is (channel-read (h .chooses .packs) (guard gs i) guard-among channel-holder (lit< tt))
 
   -- what is made of it there is the word
   pub found-word : word-numbered (getD t (guard-word-at t cores processes p) 0) ≡ channel-of (view t) (guard gs i) .word

@@ -6,16 +6,16 @@ ghost use Rattle.rules.specs.Numbers.{MOVED, yes-with};
 ghost use Rattle.rules.specs.Layout.{process-at};
 ghost use Rattle.answers.specs.Four.{four};
 ghost use Rattle.table.specs.Has.{HasProcess};
-ghost use Rattle.guards.specs.Read.{guard-at, guard-word-at, AtGuard};
+ghost use Rattle.guards.specs.Read.{word-of, guard-place, guard-at, guard-word-at, AtGuard};
 ghost use Rattle.guards.specs.Read.{stage-table, next-table};
 use answers::Reply;
 
 // The guard at index i, counted from 1.
 pub fn guard(t: &[u32], cores: usize, p: u32, i: u32) -> u32
-    requires { ⌜ (1 ≤ p) × (process-at cores p (11 + i) < length (now t)) ⌝ }
-    ensures { λ r. ⌜ r ≡ getD (now (t .entry)) (process-at cores p (11 + i)) 0 ⌝ }
+    requires { ⌜ (1 ≤ p) × (process-at cores p (guard-place i) < length (now t)) ⌝ }
+    ensures { λ r. ⌜ r ≡ word-of (now (t .entry)) cores p (guard-place i) ⌝ }
 {
-    table::process_word(t, cores, p, 11 + i as usize)
+    table::process_word(t, cores, p, layout::PROCESS_FIRST_GUARD - 1 + i as usize)
 }
 
 // The channel of the guard that the choice has come to.
@@ -23,7 +23,7 @@ pub fn guard_now(t: &[u32], cores: usize, processes: usize, p: u32) -> u32
     requires { ⌜ AtGuard (now t) cores processes p ⌝ }
     ensures { λ r. ⌜ r ≡ guard-at (now (t .entry)) cores p ⌝ }
 {
-    let i = table::process_word(t, cores, p, 10);
+    let i = table::process_word(t, cores, p, layout::PROCESS_INDEX);
     guard(t, cores, p, i)
 }
 
@@ -33,7 +33,7 @@ pub fn guard_word(t: &[u32], cores: usize, processes: usize, p: u32) -> u32
     ensures { λ r. ⌜ r ≡ getD (now (t .entry)) (guard-word-at (now (t .entry)) cores processes p) 0 ⌝ }
 {
     let c = guard_now(t, cores, processes, p);
-    table::channel_word(t, cores, processes, c, 2)
+    table::channel_word(t, cores, processes, c, layout::CHANNEL_HOLDER)
 }
 
 // That word becomes v.
@@ -42,7 +42,7 @@ pub fn set_guard_word(t: &mut [u32], cores: usize, processes: usize, p: u32, v: 
     ensures { λ r. ⌜ now (t .exit) ≡ set (now (t .entry)) (guard-word-at (now (t .entry)) cores processes p) v ⌝ }
 {
     let c = guard_now(t, cores, processes, p);
-    table::set_channel_word(t, cores, processes, c, 2, v);
+    table::set_channel_word(t, cores, processes, c, layout::CHANNEL_HOLDER, v);
 }
 
 // Process p is at the guard of number g, in the stage of number n.
@@ -50,9 +50,8 @@ pub fn set_stage(t: &mut [u32], cores: usize, p: u32, g: u32, n: u32)
     requires { ⌜ HasProcess (now t) cores p ⌝ }
     ensures { λ r. ⌜ now (t .exit) ≡ stage-table (now (t .entry)) cores p g n ⌝ }
 {
-    let i = p as usize;
-    t[8 + 16 * cores + 24 * (i - 1) + 10] = g;
-    t[8 + 16 * cores + 24 * (i - 1) + 6] = n;
+    table::set_process_word(t, cores, p, layout::PROCESS_INDEX, g);
+    table::set_process_word(t, cores, p, layout::PROCESS_PROGRESS, n);
 }
 
 // The choice goes on there.
@@ -71,8 +70,8 @@ pub fn next_guard(t: &mut [u32], cores: usize, p: u32, again: u32, after: u32) -
     ensures table { λ r. ⌜ now (t .exit) ≡ next-table (now (t .entry)) cores p again after ⌝ }
     ensures reply { λ r. ⌜ r ≡ four (yes-with MOVED) ⌝ }
 {
-    let guards = table::process_word(t, cores, p, 9);
-    let i = table::process_word(t, cores, p, 10);
+    let guards = table::process_word(t, cores, p, layout::PROCESS_GUARDS);
+    let i = table::process_word(t, cores, p, layout::PROCESS_INDEX);
     if i < guards {
         goes_on(t, cores, p, i + 1, again)
     } else {

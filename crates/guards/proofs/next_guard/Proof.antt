@@ -4,6 +4,7 @@ use native.Mathlib.Omega.{arith}
 use lib.Dec.{ltb}
 use denote.Ref.{now}
 use borrow.Author.Tests.{lt-ltb, le-ltb}
+use Rattle.rules.specs.Layout.{process-guards, process-index}
 use Rattle.guards.specs.Read.{word-of, next-table}
 use borrow.Author.Needs.{needs}
 use Rattle.guards.proofs.next_guard.Statement.{statement}
@@ -32,7 +33,7 @@ unfolding next-table
 returns c =
     let a = c .before .before .before .before .before .before .before .before .before .before .args in
     let w = word-of (now (a .t)) (a .cores) (a .p) in
-    let more : ltb (w 10) (w 9) ≡ true = lt-ltb (w 10) (w 9) (omega arith) in
+    let more : ltb (w process-index) (w process-guards) ≡ true = lt-ltb (w process-index) (w process-guards) (omega arith) in
     (rw more (cc), cc)
 
 same-length-2 : tie.Need-same-length-2
@@ -43,7 +44,7 @@ unfolding next-table
 returns-2 c =
     let a = c .before .before .before .before .before .before .before .before .before .before .args in
     let w = word-of (now (a .t)) (a .cores) (a .p) in
-    let last : ltb (w 10) (w 9) ≡ false = le-ltb (w 10) (w 9) (omega arith) in
+    let last : ltb (w process-index) (w process-guards) ≡ false = le-ltb (w process-index) (w process-guards) (omega arith) in
     (rw last (cc), cc)
 
 pub next-guard-spec : {M : Type 1} → statement M

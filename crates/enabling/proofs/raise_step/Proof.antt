@@ -1,9 +1,10 @@
+use Rattle.enabling.proofs.Enabling.{raise-small}
 use native.Mathlib.Omega.{arith}
 use Rattle.guards.proofs.Stands.{at-process}
-use Rattle.choice.proofs.Disabling.{lower-fault, lower-done}
+use Rattle.enabling.proofs.Enabling.{raise-fault, raise-done}
 use borrow.Author.Needs.{needs}
-use Rattle.choice.proofs.lower_count.Statement.{statement}
-use Rattle.choice.proofs.lower_count.Tie as tie
+use Rattle.enabling.proofs.raise_step.Statement.{statement}
+use Rattle.enabling.proofs.raise_step.Tie as tie
 
 process-word-requires : tie.Need-process-word-requires
 process-word-requires c κs =
@@ -17,18 +18,18 @@ same-length : tie.Need-same-length
 same-length c = search needs
 
 returns : tie.Need-returns
-returns c = lower-fault (c .before .before .before .before .before .pre) (omega arith) (c .refused .ensures) (cc)
+returns c = raise-fault (c .before .before .before .before .before .pre) (omega arith) (c .refused .ensures) (cc)
 
-sub-set-process-word : tie.Need-sub-set-process-word
-sub-set-process-word c = search needs
+add-set-process-word : tie.Need-add-set-process-word
+add-set-process-word c = let h = raise-small (c .before .before .before .before .before .pre) in record { fits = omega arith }
 
 set-process-word-requires : tie.Need-set-process-word-requires
 set-process-word-requires c κs =
     let h = at-process (c .before .before .before .before .before .pre) in
     omega arith
 
-next-guard-requires : tie.Need-next-guard-requires
-next-guard-requires c κs =
+move-on-requires : tie.Need-move-on-requires
+move-on-requires c κs =
     let h = at-process (c .before .before .before .before .before .before .before .before .before .pre) in
     omega arith
 
@@ -38,19 +39,19 @@ same-length-2 c = search needs
 returns-2 : tie.Need-returns-2
 returns-2 c =
     let went = c .before .before in
-    lower-done (went .before .before .before .before .before .before .before .before .before .before .pre) (λ e. omega arith)
-    (went .next-guard .ensures .1) (cc)
+    raise-done (went .before .before .before .before .before .before .before .before .before .before .pre) (λ e. omega arith)
+    (went .move-on .ensures .1) (cc)
 
-pub lower-count-spec : {M : Type 1} → statement M
-lower-count-spec =
+pub raise-step-spec : {M : Type 1} → statement M
+raise-step-spec =
     tie.close
     (tie.spec
     process-word-requires
     refused-requires
     same-length
     returns
-    sub-set-process-word
+    add-set-process-word
     set-process-word-requires
-    next-guard-requires
+    move-on-requires
     same-length-2
     returns-2)

@@ -2,8 +2,8 @@ use native.Mathlib.Omega.{arith}
 use Rattle.guards.proofs.Stands.{at-process}
 use Rattle.choice.proofs.Disabling.{disable-guard, disable-nobody, disable-ready, disable-own, disable-other}
 use borrow.Author.Needs.{needs}
-use Rattle.choice.proofs.disable_guard.Statement.{statement}
-use Rattle.choice.proofs.disable_guard.Tie as tie
+use Rattle.choice.proofs.disable_step.Statement.{statement}
+use Rattle.choice.proofs.disable_step.Tie as tie
 
 guard-word-requires : tie.Need-guard-word-requires
 guard-word-requires c κs = disable-guard (c .before .before .pre)
@@ -84,8 +84,8 @@ returns-4 c =
     (found .who-stands .ensures)
     (went .before .before .if1 .left) (went .next-guard2 .ensures .1) (went .next-guard2 .ensures .0)
 
-pub disable-guard-spec : {M : Type 1} → statement M
-disable-guard-spec =
+pub disable-step-spec : {M : Type 1} → statement M
+disable-step-spec =
     tie.close
     (tie.spec
     guard-word-requires

@@ -2,8 +2,8 @@ use native.Mathlib.Omega.{arith}
 use Rattle.guards.proofs.Stands.{at-process}
 use Rattle.enabling.proofs.Enabling.{ready-place-fault, ready-place-done}
 use borrow.Author.Needs.{needs}
-use Rattle.enabling.proofs.ready_from_place.Statement.{statement}
-use Rattle.enabling.proofs.ready_from_place.Tie as tie
+use Rattle.enabling.proofs.ready_from_place_step.Statement.{statement}
+use Rattle.enabling.proofs.ready_from_place_step.Tie as tie
 
 process-word-requires : tie.Need-process-word-requires
 process-word-requires c κs =
@@ -46,8 +46,8 @@ returns-2 c =
     ready-place-done (went .before .before .before .before .before .before .before .before .before .before .before .before .before .before .pre)
     (λ e. omega arith) (went .next-guard .ensures .1) (cc)
 
-pub ready-from-place-spec : {M : Type 1} → statement M
-ready-from-place-spec =
+pub ready-from-place-step-spec : {M : Type 1} → statement M
+ready-from-place-step-spec =
     tie.close
     (tie.spec
     process-word-requires

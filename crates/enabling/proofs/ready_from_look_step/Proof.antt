@@ -2,8 +2,8 @@ use native.Mathlib.Omega.{arith}
 use Rattle.guards.proofs.Stands.{at-process}
 use Rattle.enabling.proofs.Enabling.{ready-look-done}
 use borrow.Author.Needs.{needs}
-use Rattle.enabling.proofs.ready_from_look.Statement.{statement}
-use Rattle.enabling.proofs.ready_from_look.Tie as tie
+use Rattle.enabling.proofs.ready_from_look_step.Statement.{statement}
+use Rattle.enabling.proofs.ready_from_look_step.Tie as tie
 
 set-process-word-requires : tie.Need-set-process-word-requires
 set-process-word-requires c κs =
@@ -23,6 +23,6 @@ returns c =
     let went = c .before .before in
     ready-look-done (went .before .before .before .before .before .before .before .pre) (went .next-guard .ensures .1) (cc)
 
-pub ready-from-look-spec : {M : Type 1} → statement M
-ready-from-look-spec =
+pub ready-from-look-step-spec : {M : Type 1} → statement M
+ready-from-look-step-spec =
     tie.close (tie.spec set-process-word-requires next-guard-requires same-length returns)

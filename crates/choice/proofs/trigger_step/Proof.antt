@@ -2,8 +2,8 @@ use native.Mathlib.Omega.{arith}
 use Rattle.parts.proofs.Card.{card-core}
 use Rattle.choice.proofs.Finishing.{trigger-process, trigger-fault, trigger-waited, trigger-last, trigger-over}
 use borrow.Author.Needs.{needs}
-use Rattle.choice.proofs.trigger_choice.Statement.{statement}
-use Rattle.choice.proofs.trigger_choice.Tie as tie
+use Rattle.choice.proofs.trigger_step.Statement.{statement}
+use Rattle.choice.proofs.trigger_step.Tie as tie
 
 process-word-requires : tie.Need-process-word-requires
 process-word-requires c κs =
@@ -77,8 +77,8 @@ returns-4 c =
     (c .before .before .before .before .before .before .before .before .before .before .before .before .before .process-word .ensures) (c .before .before .before .before .before .before .before .before .set-triggered .ensures)
     (c .before .before .next-task3 .ensures .1) (c .before .before .next-task3 .ensures .0)
 
-pub trigger-choice-spec : {M : Type 1} → statement M
-trigger-choice-spec =
+pub trigger-step-spec : {M : Type 1} → statement M
+trigger-step-spec =
     tie.close
     (tie.spec
     process-word-requires

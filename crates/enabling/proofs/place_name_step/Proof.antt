@@ -2,8 +2,8 @@ use native.Mathlib.Omega.{arith}
 use Rattle.guards.proofs.Stands.{at-process}
 use Rattle.enabling.proofs.Enabling.{place-guard, place-small, place-free, place-held}
 use borrow.Author.Needs.{needs}
-use Rattle.enabling.proofs.place_name.Statement.{statement}
-use Rattle.enabling.proofs.place_name.Tie as tie
+use Rattle.enabling.proofs.place_name_step.Statement.{statement}
+use Rattle.enabling.proofs.place_name_step.Tie as tie
 
 guard-word-requires : tie.Need-guard-word-requires
 guard-word-requires c κs = search (needs, place-guard)
@@ -39,8 +39,8 @@ returns-2 c =
     let went = c .before .before in
     place-held (went .before .before .before .before .before .before .pre) (λ e. omega arith) (went .move-on .ensures .1) (went .move-on .ensures .0)
 
-pub place-name-spec : {M : Type 1} → statement M
-place-name-spec =
+pub place-name-step-spec : {M : Type 1} → statement M
+place-name-step-spec =
     tie.close
     (tie.spec
     guard-word-requires

@@ -2,8 +2,8 @@ use native.Mathlib.Omega.{arith}
 use Rattle.guards.proofs.Stands.{at-process, at-core}
 use Rattle.choice.proofs.Disabling.{wait-ready, wait-asleep}
 use borrow.Author.Needs.{needs}
-use Rattle.choice.proofs.wait_for.Statement.{statement}
-use Rattle.choice.proofs.wait_for.Tie as tie
+use Rattle.choice.proofs.wait_step.Statement.{statement}
+use Rattle.choice.proofs.wait_step.Tie as tie
 
 process-word-requires : tie.Need-process-word-requires
 process-word-requires c κs =
@@ -56,8 +56,8 @@ returns-2 c =
     (went .before .before .before .before .before .before .before .before .set-flags .ensures)
     (went .before .before .before .before .set-stage .ensures) (went .falls-asleep .ensures .1) (went .falls-asleep .ensures .0)
 
-pub wait-for-spec : {M : Type 1} → statement M
-wait-for-spec =
+pub wait-step-spec : {M : Type 1} → statement M
+wait-step-spec =
     tie.close
     (tie.spec
     process-word-requires

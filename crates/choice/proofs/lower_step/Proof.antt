@@ -1,10 +1,9 @@
-use Rattle.enabling.proofs.Enabling.{raise-small}
 use native.Mathlib.Omega.{arith}
 use Rattle.guards.proofs.Stands.{at-process}
-use Rattle.enabling.proofs.Enabling.{raise-fault, raise-done}
+use Rattle.choice.proofs.Disabling.{lower-fault, lower-done}
 use borrow.Author.Needs.{needs}
-use Rattle.enabling.proofs.raise_count.Statement.{statement}
-use Rattle.enabling.proofs.raise_count.Tie as tie
+use Rattle.choice.proofs.lower_step.Statement.{statement}
+use Rattle.choice.proofs.lower_step.Tie as tie
 
 process-word-requires : tie.Need-process-word-requires
 process-word-requires c κs =
@@ -18,18 +17,18 @@ same-length : tie.Need-same-length
 same-length c = search needs
 
 returns : tie.Need-returns
-returns c = raise-fault (c .before .before .before .before .before .pre) (omega arith) (c .refused .ensures) (cc)
+returns c = lower-fault (c .before .before .before .before .before .pre) (omega arith) (c .refused .ensures) (cc)
 
-add-set-process-word : tie.Need-add-set-process-word
-add-set-process-word c = let h = raise-small (c .before .before .before .before .before .pre) in record { fits = omega arith }
+sub-set-process-word : tie.Need-sub-set-process-word
+sub-set-process-word c = search needs
 
 set-process-word-requires : tie.Need-set-process-word-requires
 set-process-word-requires c κs =
     let h = at-process (c .before .before .before .before .before .pre) in
     omega arith
 
-move-on-requires : tie.Need-move-on-requires
-move-on-requires c κs =
+next-guard-requires : tie.Need-next-guard-requires
+next-guard-requires c κs =
     let h = at-process (c .before .before .before .before .before .before .before .before .before .pre) in
     omega arith
 
@@ -39,19 +38,19 @@ same-length-2 c = search needs
 returns-2 : tie.Need-returns-2
 returns-2 c =
     let went = c .before .before in
-    raise-done (went .before .before .before .before .before .before .before .before .before .before .pre) (λ e. omega arith)
-    (went .move-on .ensures .1) (cc)
+    lower-done (went .before .before .before .before .before .before .before .before .before .before .pre) (λ e. omega arith)
+    (went .next-guard .ensures .1) (cc)
 
-pub raise-count-spec : {M : Type 1} → statement M
-raise-count-spec =
+pub lower-step-spec : {M : Type 1} → statement M
+lower-step-spec =
     tie.close
     (tie.spec
     process-word-requires
     refused-requires
     same-length
     returns
-    add-set-process-word
+    sub-set-process-word
     set-process-word-requires
-    move-on-requires
+    next-guard-requires
     same-length-2
     returns-2)

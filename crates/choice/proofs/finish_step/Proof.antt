@@ -2,8 +2,8 @@ use native.Mathlib.Omega.{arith}
 use Rattle.guards.proofs.Stands.{at-process, at-core}
 use Rattle.choice.proofs.Finishing.{finish-guard, finish-none, finish-fault, finish-now, finish-later}
 use borrow.Author.Needs.{needs}
-use Rattle.choice.proofs.finish_choice.Statement.{statement}
-use Rattle.choice.proofs.finish_choice.Tie as tie
+use Rattle.choice.proofs.finish_step.Statement.{statement}
+use Rattle.choice.proofs.finish_step.Tie as tie
 
 process-word-requires : tie.Need-process-word-requires
 process-word-requires c κs =
@@ -93,8 +93,8 @@ returns-4 c =
     (found .guard .ensures) (counted .set-process-word .ensures)
     (slept .before .before .before .before .set-due .ensures) (slept .falls-asleep .ensures .1) (slept .falls-asleep .ensures .0)
 
-pub finish-choice-spec : {M : Type 1} → statement M
-finish-choice-spec =
+pub finish-step-spec : {M : Type 1} → statement M
+finish-step-spec =
     tie.close
     (tie.spec
     process-word-requires

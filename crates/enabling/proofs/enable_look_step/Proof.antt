@@ -2,8 +2,8 @@ use native.Mathlib.Omega.{arith}
 use Rattle.enabling.proofs.Enabling.{look-guard, look-free, look-held}
 use Rattle.guards.proofs.Stands.{at-process}
 use borrow.Author.Needs.{needs}
-use Rattle.enabling.proofs.enable_look.Statement.{statement}
-use Rattle.enabling.proofs.enable_look.Tie as tie
+use Rattle.enabling.proofs.enable_look_step.Statement.{statement}
+use Rattle.enabling.proofs.enable_look_step.Tie as tie
 
 guard-word-requires : tie.Need-guard-word-requires
 guard-word-requires c κs = search (needs, look-guard)
@@ -30,8 +30,8 @@ returns-2 c =
     let went = c .before .before in
     look-held (went .before .before .before .before .before .before .pre) (λ e. omega arith) (went .move-on2 .ensures .1) (went .move-on2 .ensures .0)
 
-pub enable-look-spec : {M : Type 1} → statement M
-enable-look-spec =
+pub enable-look-step-spec : {M : Type 1} → statement M
+enable-look-step-spec =
     tie.close
     (tie.spec
     guard-word-requires
