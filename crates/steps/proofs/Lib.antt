@@ -1,4 +1,5 @@
 pub mod Moves
 pub mod Near
 pub mod Comes
+pub mod Waking
 pub mod Wake

@@ -1,13 +1,14 @@
 -- What is known at a stage of send or receive: of its core, its process and its channel, and of the partner where there is one.
-use Prim.Native.Nat.{ℕ, _<_}
+use Prim.Native.Nat.{ℕ, _<_, _^_}
 use mathlib.Core.Path.{_≡_, sym, ap, _∙_}
 use mathlib.Core.Bool.{_&&_}
 use mathlib.Core.List.{List}
+use native.Mathlib.Omega.{arith}
 use lib.Dec.{T}
 use lib.ListN.{length, getD}
 use Rattle.rules.specs.State.{Way, Stage, look, park, copy, clear, wake, wiring}
 use Rattle.rules.specs.Items.{channel-of}
-use Rattle.rules.specs.Layout.{channel-at}
+use Rattle.rules.specs.Layout.{channel-at, channel-holder}
 use Rattle.rules.specs.Packing.{view, word-numbered}
 use Rattle.rules.specs.Soundness.{is-process, own-end}
 use Rattle.rules.proofs.Tests.{both, within-means}
@@ -15,7 +16,7 @@ use Rattle.words.specs.Meaning.{meaning}
 use Rattle.words.specs.declared.Holder.{Holder}
 use Rattle.table.specs.Has.{HasCore, HasProcess, HasChannel}
 use Rattle.parts.specs.Does.{Card, At}
-use Rattle.parts.proofs.Card.{card-inside, card-core, card-process, card-channel, runs-range, runs-process, stage-valid, own-end-range}
+use Rattle.parts.proofs.Card.{card-inside, card-core, card-process, card-channel, runs-range, runs-process, name-fits, stage-valid, own-end-range}
 use Rattle.parts.proofs.Packs.{Packs, IsProcess, IsChannel, card-packs, who-stands}
 
 -- the core k, the process p that runs there and its channel c
@@ -36,7 +37,7 @@ pub record Partner (t : List ℕ) (cores q : ℕ) : Type 0 where
 
 -- who is found in the channel's word stands there
 pub found-near : {t : List ℕ} {cores processes k p c : ℕ} → Near t cores processes k p c → {found h : Holder} → found ≡ h
-    → meaning found ≡ word-numbered (getD t (channel-at cores processes c 2) 0) → channel-of (view t) c .word ≡ meaning h
+    → meaning found ≡ word-numbered (getD t (channel-at cores processes c channel-holder) 0) → channel-of (view t) c .word ≡ meaning h
 found-near {c = c} near told means = sym (who-stands (near .card) c (near .is-channel)) ∙ sym means ∙ ap meaning told
 
 module _ {t : List ℕ} {cores processes k p : ℕ} {x : Stage} (at : At t cores processes k p x) where
@@ -82,3 +83,37 @@ module _ {t : List ℕ} {cores processes k p c : ℕ} {w : Way} where
 
     pub at-wake : At t cores processes k p (wake w c q) → Near t cores processes k p c × Partner t cores q
     at-wake at = with-partner at w c q (stage-valid t cores processes k p (wake w c q) at)
+
+-- What is asked of the table where words were written since, as many as there were
+
+module _ {t u : List ℕ} {cores processes k p : ℕ} {x : Stage} (at : At t cores processes k p x) (same : length u ≡ length t) where
+  pub stage-core : HasCore u k
+  stage-core = let has = card-core t cores processes k (at .card) in omega arith
+
+  pub stage-process : HasProcess u cores p
+  stage-process = let has = runs-process t cores processes k p x at in omega arith
+
+pub later-process : {t u : List ℕ} {cores p : ℕ} → HasProcess t cores p → length u ≡ length t → HasProcess u cores p
+later-process has same = omega arith
+
+near-channel : {t u : List ℕ} {cores processes k p c : ℕ} → length u ≡ length t → Near t cores processes k p c → HasChannel u cores processes c
+near-channel same near = omega arith
+
+module _ {t u : List ℕ} {cores processes k p c : ℕ} {w : Way} (same : length u ≡ length t) where
+  pub look-channel : At t cores processes k p (look w c) → HasChannel u cores processes c
+  look-channel at = near-channel same (at-look at)
+
+  pub park-channel : At t cores processes k p (park w c) → HasChannel u cores processes c
+  park-channel at = near-channel same (at-park at)
+
+  module _ {q : ℕ} where
+    pub clear-channel : At t cores processes k p (clear w c q) → HasChannel u cores processes c
+    clear-channel at = near-channel same (at-clear at .0)
+
+-- the partner, before anything is written
+pub copy-partner : {t : List ℕ} {cores processes k p c q : ℕ} {w : Way} → At t cores processes k p (copy w c q) → HasProcess t cores q
+copy-partner at = at-copy at .1 .process
+
+-- the name of the running process fits a word
+pub stage-name : {t : List ℕ} {cores processes k p : ℕ} {x : Stage} → At t cores processes k p x → p < 2 ^ 31
+stage-name {t} {cores} {processes} {k} {p} {x} at = name-fits (at .card) (runs-range t cores processes k p x at .1)

@@ -1,28 +1,26 @@
--- What the writes of wake come to: it does its rule.
-use Prim.Native.Nat.{ℕ}
+-- What wake comes to: it does its rule.
+use Prim.Native.Nat.{ℕ, _≤_}
 use mathlib.Core.Path.{_≡_, refl, sym, _∙_, subst}
+use mathlib.Core.Bool.{Bool, true, false}
 use mathlib.Core.List.{List}
 use lib.Dec.{lit<}
-use lib.ListN.{getD, set}
+use lib.ListN.{getD}
 use Rattle.rules.specs.Numbers.{Answer, FAULT, yes-with, no-because}
-use Rattle.rules.specs.State.{Place, Way, sending, receiving, wake, nothing, State}
+use Rattle.rules.specs.State.{Way, sending, receiving, wake, nothing, State}
 use Rattle.rules.specs.Items.{process-of, put, progress}
-use Rattle.rules.specs.Layout.{process-at}
-use Rattle.rules.specs.Packing.{view, place-number}
-use Rattle.rules.specs.Rule.{Ran, accepted, run, _>>_}
-use Rattle.rules.specs.Steps.{must-sleep, joins, outcome, reports, wake-step}
-use Rattle.packing.specs.Queues.{push-table}
+use Rattle.rules.specs.Layout.{process-at, process-data}
+use Rattle.rules.specs.Packing.{view}
+use Rattle.rules.specs.Rule.{Ran, accepted, run}
+use Rattle.rules.specs.Steps.{outcome, reports, wake-step}
 use Rattle.answers.specs.Four.{four}
 use Rattle.answers.specs.declared.Reply.{Reply}
 use Rattle.parts.specs.Does.{At, Comes, Does}
 use Rattle.parts.specs.Shared.{cleared, reported}
-use Rattle.parts.proofs.Card.{facts, card-order}
-use Rattle.parts.proofs.Packs.{Packs, IsProcess, still-process, process-read, progress-cleared}
-use Rattle.parts.proofs.Wakes.{sleeper, awake-refused}
-use Rattle.queues.specs.Fits.{CanJoin}
-use Rattle.queues.proofs.Joins.{with-joined, may-join, joined}
+use Rattle.parts.proofs.Packs.{IsProcess, process-read, progress-cleared}
 use Rattle.steps.specs.Outcomes.{due-of}
+use Rattle.steps.specs.Wakes.{CanWake, Wakes}
 use Rattle.steps.proofs.Near.{at-wake}
+use Rattle.steps.proofs.Waking.{GoesOn, woken, not-woken}
 
 -- what the report of an outcome comes to
 report-runs : (p : ℕ) (w : Way) (c : ℕ) (s : State)
@@ -31,42 +29,29 @@ report-runs p sending c s = refl
 report-runs p receiving c s = refl
 
 module _ {t : List ℕ} {cores processes k p c q : ℕ} {w : Way} (at : At t cores processes k p (wake w c q)) where
-  -- the partner's place decides
-  place-decides : (r : Reply) (v : List ℕ) {x : Place} → process-of (view t) q .place ≡ x
-      → Comes (run (must-sleep x >> joins k q >> reports p (outcome w c)) (view t)) t r v → Does (wake-step k p w c q) t r v
-  place-decides r v e d = subst (λ (y : Place). Comes (run (must-sleep y >> joins k q >> reports p (outcome w c)) (view t)) t r v) (sym e) d
-
-  module _ {n : ℕ} (read : n ≡ getD t (process-at cores q 0) 0) where
-    place-is : place-number (process-of (view t) q .place) ≡ n
-    place-is = sym (read ∙ process-read (at-wake at .0 .packs) q (at-wake at .1 .is-process) 0 (lit< tt))
-
-    -- the partner isn't asleep
-    pub wake-faults : (n ≡ 3 → ⊥) → {r : Reply} → r ≡ four (no-because FAULT) → Does (wake-step k p w c q) t r t
-    wake-faults awake {r} reply =
-        subst (λ (x : Ran Answer). Comes x t r t)
-        (sym (awake-refused (process-of (view t) q .place) (λ e. awake (sym place-is ∙ e)) (joins k q) (reports p (outcome w c)) (view t)))
-        (reply, refl)
-
-    -- it joins the active queue, and the outcome is reported
-    pub wake-reports : n ≡ 3 → {u : List ℕ} {m : ℕ} → u ≡ push-table (set t (process-at cores q 0) 2) cores k q → m ≡ due-of w
-        → {r : Reply} {v : List ℕ} → r ≡ four (yes-with (reported m p c (getD u (process-at cores p 1) 0))) → v ≡ cleared u cores p
-        → Does (wake-step k p w c q) t r v
-    wake-reports sleeps {u} pushed number {r} {v} reply written =
-        place-decides r v (sleeper (process-of (view t) q .place) (place-is ∙ sleeps))
-        (subst (λ (x : Ran Answer). Comes x t r v) (sym (report-runs p w c after))
-        (rw (number, process-read woken p is 1 (lit< tt)) at reply, written ∙ progress-cleared woken p is .is-pack))
-      where
-        after : State
-        after = with-joined k q (view t)
-
-        woken : Packs u cores processes after
-        woken = let near = at-wake at .0 in rw pushed (joined (near .packs) k (near .inside) (card-order (at .card)) q (at-wake at .1 .is-process))
-
-        is : IsProcess after p
-        is = still-process (view t) p q _ (at-wake at .0 .is-process)
-
-  -- the partner can join the active queue
-  pub wake-joins : CanJoin t cores k q
-  wake-joins =
+  pub can-wake : CanWake t cores processes k q
+  can-wake =
       let near = at-wake at .0 in
-      may-join (near .packs) k (near .inside) (card-order (at .card)) q (at-wake at .1 .is-process) (facts t (at .card .is-sound) .sizes .processes .1)
+      let is = at-wake at .1 .is-process in
+      record { card = at .card; from-one = is .0; inside = subst (λ (n : ℕ). q ≤ n) (sym (near .packs .all-processes)) (is .1) }
+
+  module _ {woke : Bool} {u : List ℕ} (wakes : Wakes t k q woke u) where
+    -- the partner wasn't asleep
+    pub wake-faults : woke ≡ false → {r : Reply} → r ≡ four (no-because FAULT) → Does (wake-step k p w c q) t r u
+    wake-faults was said = not-woken can-wake wakes was (reports p (outcome w c)) said
+
+    -- it was: the outcome is reported
+    pub wake-reports : woke ≡ true → {m : ℕ} → m ≡ due-of w → {r : Reply} {v : List ℕ}
+        → r ≡ four (yes-with (reported m p c (getD u (process-at cores p process-data) 0))) → v ≡ cleared u cores p
+        → Does (wake-step k p w c q) t r v
+    wake-reports was number {r} {v} reply written =
+        subst (λ (x : Ran Answer). Comes x t r v) (sym (goes .rest-runs (reports p (outcome w c)) ∙ report-runs p w c (goes .state)))
+        (rw (number, process-read (goes .packs) p is process-data (lit< tt)) at reply, written ∙ progress-cleared (goes .packs) p is .is-pack)
+      where
+        goes : GoesOn t u cores processes k q
+        goes = woken can-wake wakes was
+
+        is : IsProcess (goes .state) p
+        is =
+            let was = at-wake at .0 in
+            (was .is-process .0, subst (λ (n : ℕ). p ≤ n) (sym (was .packs .all-processes) ∙ goes .packs .all-processes) (was .is-process .1))

@@ -1,10 +1,10 @@
 // The steps of send and receive (document 01; 000, figure 7), for the process p that runs on core k.
 ghost use mathlib.Core.Path.{_≡_};
-ghost use Prim.Native.Nat.{_<_};
+ghost use Prim.Native.Nat.{_≤_};
 ghost use lib.ListN.{getD, set};
 ghost use Rattle.rules.specs.Numbers.{MOVED, SLEPT, yes-with};
 ghost use Rattle.rules.specs.State.{look, park, copy, clear, wake};
-ghost use Rattle.rules.specs.Layout.{process-at, channel-at};
+ghost use Rattle.rules.specs.Layout.{process-at, channel-at, process-progress, process-partner, channel-holder, at-send-copy, at-send-wake};
 ghost use Rattle.rules.specs.Packing.{word-numbered};
 ghost use Rattle.rules.specs.Steps.{look-step, park-step, copy-step, clear-step, wake-step};
 ghost use Rattle.answers.specs.Four.{four};
@@ -14,6 +14,7 @@ ghost use Rattle.parts.specs.Does.{At, Does, of-way};
 ghost use Rattle.parts.specs.Ways.{which};
 ghost use Rattle.parts.specs.Shared.{asleep-table};
 ghost use Rattle.steps.specs.Outcomes.{due-of, copied};
+ghost use Rattle.steps.specs.Wakes.{CanWake, Wakes};
 use answers::Reply;
 use parts::Way;
 use words::Holder;
@@ -21,24 +22,24 @@ use words::Holder;
 // Who stands in the word of channel c.
 fn who_is_at(t: &[u32], cores: usize, processes: usize, c: u32) -> Holder
     requires { ⌜ HasChannel (now t) cores processes c ⌝ }
-    ensures { λ r. ⌜ meaning r ≡ word-numbered (getD (now (t .entry)) (channel-at cores processes c 2) 0) ⌝ }
+    ensures { λ r. ⌜ meaning r ≡ word-numbered (getD (now (t .entry)) (channel-at cores processes c channel-holder) 0) ⌝ }
 {
-    let word = table::channel_word(t, cores, processes, c, 2);
+    let word = table::channel_word(t, cores, processes, c, layout::CHANNEL_HOLDER);
     words::who_stands(word)
 }
 
 // The word of channel c becomes v.
 fn set_word(t: &mut [u32], cores: usize, processes: usize, c: u32, v: u32)
     requires { ⌜ HasChannel (now t) cores processes c ⌝ }
-    ensures { λ r. ⌜ now (t .exit) ≡ set (now (t .entry)) (channel-at cores processes c 2) v ⌝ }
+    ensures { λ r. ⌜ now (t .exit) ≡ set (now (t .entry)) (channel-at cores processes c channel-holder) v ⌝ }
 {
-    table::set_channel_word(t, cores, processes, c, 2, v);
+    table::set_channel_word(t, cores, processes, c, layout::CHANNEL_HOLDER, v);
 }
 
 // The request goes on at another stage.
 fn goes_on(t: &mut [u32], cores: usize, p: u32, way: Way, n: u32) -> Reply
-    requires { ⌜ HasProcess (now t) cores p ⌝ ∗ ⌜ n < 100 ⌝ }
-    ensures table { λ r. ⌜ now (t .exit) ≡ set (now (t .entry)) (process-at cores p 6) (of-way (which way) n) ⌝ }
+    requires { ⌜ HasProcess (now t) cores p ⌝ ∗ ⌜ n ≤ at-send-wake ⌝ }
+    ensures table { λ r. ⌜ now (t .exit) ≡ set (now (t .entry)) (process-at cores p process-progress) (of-way (which way) n) ⌝ }
     ensures reply { λ r. ⌜ r ≡ four (yes-with MOVED) ⌝ }
 {
     let number = parts::numbered(way, n);
@@ -48,11 +49,11 @@ fn goes_on(t: &mut [u32], cores: usize, p: u32, way: Way, n: u32) -> Reply
 // The partner is q: next copy.
 fn finds(t: &mut [u32], cores: usize, p: u32, way: Way, q: u32) -> Reply
     requires { ⌜ HasProcess (now t) cores p ⌝ }
-    ensures table { λ r. ⌜ now (t .exit) ≡ set (set (now (t .entry)) (process-at cores p 8) q) (process-at cores p 6) (of-way (which way) 3) ⌝ }
+    ensures table { λ r. ⌜ now (t .exit) ≡ set (set (now (t .entry)) (process-at cores p process-partner) q) (process-at cores p process-progress) (of-way (which way) at-send-copy) ⌝ }
     ensures reply { λ r. ⌜ r ≡ four (yes-with MOVED) ⌝ }
 {
-    table::set_process_word(t, cores, p, 8, q);
-    goes_on(t, cores, p, way, 3)
+    table::set_process_word(t, cores, p, layout::PROCESS_PARTNER, q);
+    goes_on(t, cores, p, way, layout::AT_SEND_COPY)
 }
 
 // Look: nobody, or one who is choosing: next park. Otherwise that process is the partner: next copy.
@@ -70,8 +71,8 @@ pub fn look_at(
 {
     let found = who_is_at(t, cores, processes, c);
     match found {
-        Holder::Nobody => goes_on(t, cores, p, way, 2),
-        Holder::Choosing(_) => goes_on(t, cores, p, way, 2),
+        Holder::Nobody => goes_on(t, cores, p, way, layout::AT_SEND_PARK),
+        Holder::Choosing(_) => goes_on(t, cores, p, way, layout::AT_SEND_PARK),
         Holder::Plain(partner) => finds(t, cores, p, way, partner),
     }
 }
@@ -81,19 +82,19 @@ fn due_number(way: Way) -> u32
     ensures { λ r. ⌜ r ≡ due-of (which way) ⌝ }
 {
     match way {
-        Way::Sending => 21,
-        Way::Receiving => 22,
+        Way::Sending => layout::DUE_SENT,
+        Way::Receiving => layout::DUE_GOT,
     }
 }
 
 // Process p falls asleep with its outcome due, and the core has a task, of process q.
 fn sleeps(t: &mut [u32], cores: usize, k: usize, p: u32, way: Way, task: u32, q: u32) -> Reply
     requires { ⌜ HasProcess (now t) cores p ⌝ ∗ ⌜ HasCore (now t) k ⌝ }
-    ensures table { λ r. ⌜ now (t .exit) ≡ asleep-table (set (now (t .entry)) (process-at cores p 6) (due-of (which way))) cores k p task q ⌝ }
+    ensures table { λ r. ⌜ now (t .exit) ≡ asleep-table (set (now (t .entry)) (process-at cores p process-progress) (due-of (which way))) cores k p task q ⌝ }
     ensures reply { λ r. ⌜ r ≡ four (yes-with (SLEPT p)) ⌝ }
 {
     let number = due_number(way);
-    table::set_process_word(t, cores, p, 6, number);
+    table::set_process_word(t, cores, p, layout::PROCESS_PROGRESS, number);
     parts::falls_asleep(t, cores, k, p, task, q)
 }
 
@@ -115,8 +116,8 @@ pub fn park_at(
     let name = words::plain_name(p);
     set_word(t, cores, processes, c, name);
     match found {
-        Holder::Nobody => sleeps(t, cores, k, p, way, 0, 0),
-        Holder::Choosing(q) => sleeps(t, cores, k, p, way, 1, q),
+        Holder::Nobody => sleeps(t, cores, k, p, way, layout::TASK_NONE, 0),
+        Holder::Choosing(q) => sleeps(t, cores, k, p, way, layout::TASK_TRIGGER, q),
         Holder::Plain(q) => finds(t, cores, p, way, q),
     }
 }
@@ -128,12 +129,12 @@ fn copy_word(t: &mut [u32], cores: usize, p: u32, way: Way, q: u32)
 {
     match way {
         Way::Sending => {
-            let v = table::process_word(t, cores, p, 1);
-            table::set_process_word(t, cores, q, 1, v);
+            let v = table::process_word(t, cores, p, layout::PROCESS_DATA);
+            table::set_process_word(t, cores, q, layout::PROCESS_DATA, v);
         }
         Way::Receiving => {
-            let v = table::process_word(t, cores, q, 1);
-            table::set_process_word(t, cores, p, 1, v);
+            let v = table::process_word(t, cores, q, layout::PROCESS_DATA);
+            table::set_process_word(t, cores, p, layout::PROCESS_DATA, v);
         }
     }
 }
@@ -153,10 +154,10 @@ pub fn copy_data(
     ensures { λ r. ⌜ Does (copy-step p (which way) c q) (now (t .entry)) r (now (t .exit)) ⌝ }
 {
     copy_word(t, cores, p, way, q);
-    let n = table::channel_word(t, cores, processes, c, 3);
+    let n = table::channel_word(t, cores, processes, c, layout::CHANNEL_TRANSFERS);
     let one_more = std::num::wrapping_add_u32(n, 1);
-    table::set_channel_word(t, cores, processes, c, 3, one_more);
-    goes_on(t, cores, p, way, 4)
+    table::set_channel_word(t, cores, processes, c, layout::CHANNEL_TRANSFERS, one_more);
+    goes_on(t, cores, p, way, layout::AT_SEND_CLEAR)
 }
 
 // Clear: the word becomes 0.
@@ -174,10 +175,23 @@ pub fn clear_word(
     ensures { λ r. ⌜ Does (clear-step p (which way) c q) (now (t .entry)) r (now (t .exit)) ⌝ }
 {
     set_word(t, cores, processes, c, 0);
-    goes_on(t, cores, p, way, 5)
+    goes_on(t, cores, p, way, layout::AT_SEND_WAKE)
 }
 
-// Wake: the partner, who must be asleep, goes to the end of this core's active queue; answer SENT or GOT.
+// Core k wakes process q, who must be asleep: it goes to the end of this core's active queue. Whether it was asleep.
+pub fn wakes(t: &mut [u32], cores: usize, processes: usize, k: usize, q: u32) -> bool
+    requires { ⌜ CanWake (now t) cores processes k q ⌝ }
+    ensures { λ r. ⌜ Wakes (now (t .entry)) k q r (now (t .exit)) ⌝ }
+{
+    let place = table::process_word(t, cores, q, layout::PROCESS_PLACE);
+    if place != layout::PLACE_ASLEEP {
+        return false;
+    }
+    queues::join(t, cores, k, q);
+    true
+}
+
+// Wake: the core wakes the partner; answer SENT or GOT.
 pub fn wake_partner(
     t: &mut [u32],
     cores: usize,
@@ -191,11 +205,9 @@ pub fn wake_partner(
     requires { ⌜ At (now t) cores processes k p (wake (which way) c q) ⌝ }
     ensures { λ r. ⌜ Does (wake-step k p (which way) c q) (now (t .entry)) r (now (t .exit)) ⌝ }
 {
-    let place = table::process_word(t, cores, q, 0);
-    if place != 3 {
-        return answers::refused(answers::FAULT);
+    if wakes(t, cores, processes, k, q) {
+        let number = due_number(way);
+        return parts::reports(t, cores, p, number, c);
     }
-    queues::join(t, cores, k, q);
-    let number = due_number(way);
-    parts::reports(t, cores, p, number, c)
+    answers::refused(answers::FAULT)
 }
