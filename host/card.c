@@ -1,4 +1,5 @@
 #include "card.h"
+#include "layout.h"
 
 #include <stdio.h>
 #include <string.h>
@@ -57,33 +58,33 @@ uint32_t card_next_core(struct card *card)
 
 uint32_t card_step(struct card *card, uint32_t core)
 {
-    return keep(card, core, fontarisca_step(card->table, card->words, card->answer, 3, core));
+    return keep(card, core, fontarisca_step(card->table, card->words, card->answer, FONTARISCA_ANSWER_WORDS, core));
 }
 
 uint32_t card_send(struct card *card, uint32_t core, uint32_t channel, uint32_t value)
 {
-    return keep(card, core, fontarisca_send(card->table, card->words, card->answer, 3, core, channel, value));
+    return keep(card, core, fontarisca_send(card->table, card->words, card->answer, FONTARISCA_ANSWER_WORDS, core, channel, value));
 }
 
 uint32_t card_receive(struct card *card, uint32_t core, uint32_t channel)
 {
-    return keep(card, core, fontarisca_receive(card->table, card->words, card->answer, 3, core, channel));
+    return keep(card, core, fontarisca_receive(card->table, card->words, card->answer, FONTARISCA_ANSWER_WORDS, core, channel));
 }
 
 uint32_t card_choose(struct card *card, uint32_t core, const uint32_t *guards, size_t count)
 {
     const uint32_t *list = lent_copy(&card->lent_list, guards, count);
-    return keep(card, core, fontarisca_choose(card->table, card->words, card->answer, 3, core, list, count));
+    return keep(card, core, fontarisca_choose(card->table, card->words, card->answer, FONTARISCA_ANSWER_WORDS, core, list, count));
 }
 
 uint32_t card_yield(struct card *card, uint32_t core)
 {
-    return keep(card, core, fontarisca_yield(card->table, card->words, card->answer, 3, core));
+    return keep(card, core, fontarisca_yield(card->table, card->words, card->answer, FONTARISCA_ANSWER_WORDS, core));
 }
 
 uint32_t card_end(struct card *card, uint32_t core)
 {
-    return keep(card, core, fontarisca_end(card->table, card->words, card->answer, 3, core));
+    return keep(card, core, fontarisca_end(card->table, card->words, card->answer, FONTARISCA_ANSWER_WORDS, core));
 }
 
 int card_wants_request(const struct card *card, uint32_t core)
@@ -96,7 +97,7 @@ unsigned long card_transfers(const struct card *card)
 {
     unsigned long sum = 0;
     for (uint32_t c = 1; c <= card->channels; c++)
-        sum += card->table[FONTARISCA_TABLE_WORDS(card->cores, card->processes, c - 1) + 3];
+        sum += card->table[CHANNEL_AT(card->cores, card->processes, c, CHANNEL_TRANSFERS)];
     return sum;
 }
 

@@ -17,7 +17,7 @@ struct card {
     uint32_t cores, processes, channels;
     uint32_t *answer;
     uint32_t said[FONTARISCA_MAX_CORES];               /* the number of each core's last call */
-    uint32_t words_said[FONTARISCA_MAX_CORES][3];      /* and its answer words */
+    uint32_t words_said[FONTARISCA_MAX_CORES][FONTARISCA_ANSWER_WORDS]; /* and its answer words */
     unsigned long calls[CARD_NUMBERS];                 /* how often each number came back */
     uint64_t seed;
 };

@@ -1,12 +1,13 @@
 /* Every function of the header, called from C, and every number that it lists: the answer words, and that a refusal writes nothing. */
 #include "card.h"
+#include "layout.h"
 #include "options.h"
 
 #include <stdio.h>
 #include <string.h>
 
 #define WORDS FONTARISCA_TABLE_WORDS(1, 2, 1)
-#define PROCESS_1 (8 + 16)
+#define PROCESS_1(word) PROCESS_AT(1, 1, word)
 
 struct trial {
     struct lent lent_table, lent_answer, lent_list;
@@ -56,12 +57,12 @@ static uint32_t set_up(struct trial *trial, uint32_t k, uint32_t writer, uint32_
 
 static uint32_t step(struct trial *trial)
 {
-    return fontarisca_step(before(trial)->table, WORDS, trial->answer, 3, 0);
+    return fontarisca_step(before(trial)->table, WORDS, trial->answer, FONTARISCA_ANSWER_WORDS, 0);
 }
 
 static uint32_t send(struct trial *trial, uint32_t channel)
 {
-    return fontarisca_send(before(trial)->table, WORDS, trial->answer, 3, 0, channel, 77);
+    return fontarisca_send(before(trial)->table, WORDS, trial->answer, FONTARISCA_ANSWER_WORDS, 0, channel, 77);
 }
 
 static uint32_t receive(struct trial *trial, uint32_t core, size_t answer)
@@ -73,7 +74,7 @@ static uint32_t choose(struct trial *trial, size_t count)
 {
     static const uint32_t guards[2] = {1, 1};
     const uint32_t *list = lent_copy(&before(trial)->lent_list, guards, count);
-    return fontarisca_choose(trial->table, WORDS, trial->answer, 3, 0, list, count);
+    return fontarisca_choose(trial->table, WORDS, trial->answer, FONTARISCA_ANSWER_WORDS, 0, list, count);
 }
 
 static void try_set_up(struct trial *trial)
@@ -87,21 +88,28 @@ static void try_set_up(struct trial *trial)
     expect(trial, FONTARISCA_BUILT, set_up(trial, 1, 1, 2, 2, WORDS));
 }
 
+/* writes the progress of process 1 by hand */
+static void progress(struct trial *trial, uint32_t at, uint32_t channel, uint32_t partner)
+{
+    trial->table[PROCESS_1(PROCESS_PROGRESS)] = at;
+    trial->table[PROCESS_1(PROCESS_CHANNEL)] = channel;
+    trial->table[PROCESS_1(PROCESS_PARTNER)] = partner;
+}
+
 /* process 1 is to send and falls asleep; on the way the refusals that need it */
 static void try_sender(struct trial *trial)
 {
     expect(trial, FONTARISCA_BUSY, send(trial, 1));
     expect_words(trial, FONTARISCA_MOVED, step(trial), 0, 0, 0);
     expect_words(trial, FONTARISCA_GO, step(trial), 1, 0, 0);
-    expect(trial, FONTARISCA_ANSWER, receive(trial, 0, 2));
-    expect(trial, FONTARISCA_CORE, receive(trial, 1, 3));
-    expect(trial, FONTARISCA_OTHER_END, receive(trial, 0, 3));
+    expect(trial, FONTARISCA_ANSWER, receive(trial, 0, FONTARISCA_ANSWER_WORDS - 1));
+    expect(trial, FONTARISCA_CORE, receive(trial, 1, FONTARISCA_ANSWER_WORDS));
+    expect(trial, FONTARISCA_OTHER_END, receive(trial, 0, FONTARISCA_ANSWER_WORDS));
     expect(trial, FONTARISCA_CHANNEL, send(trial, 2));
     expect(trial, FONTARISCA_AWAITED, step(trial));
-    uint32_t *progress = trial->table + PROCESS_1 + 6;
-    memcpy(progress, ((const uint32_t[]){5, 1, 2}), 3 * sizeof *progress);      /* send: wake process 2, who isn't asleep */
+    progress(trial, AT_SEND_WAKE, 1, 2);      /* process 2 isn't asleep */
     expect(trial, FONTARISCA_FAULT, step(trial));
-    memset(progress, 0, 3 * sizeof *progress);
+    progress(trial, AT_NOTHING, 0, 0);
     expect_words(trial, FONTARISCA_TAKEN, send(trial, 1), 1, 1, 0);
     expect_words(trial, FONTARISCA_MOVED, step(trial), 0, 0, 0);
     expect_words(trial, FONTARISCA_SLEPT, step(trial), 1, 0, 0);
@@ -118,15 +126,15 @@ static void try_receiver(struct trial *trial)
     for (int i = 0; i < 4; i++)
         expect_words(trial, FONTARISCA_MOVED, step(trial), 0, 0, 0);
     expect_words(trial, FONTARISCA_CHOSE, step(trial), 2, 1, 0);
-    expect_words(trial, FONTARISCA_TAKEN, receive(trial, 0, 3), 2, 1, 0);
+    expect_words(trial, FONTARISCA_TAKEN, receive(trial, 0, FONTARISCA_ANSWER_WORDS), 2, 1, 0);
     for (int i = 0; i < 3; i++)
         expect_words(trial, FONTARISCA_MOVED, step(trial), 0, 0, 0);
     expect_words(trial, FONTARISCA_GOT, step(trial), 2, 1, 77);
-    expect_words(trial, FONTARISCA_TAKEN, fontarisca_yield(before(trial)->table, WORDS, trial->answer, 3, 0), 2, 0, 0);
+    expect_words(trial, FONTARISCA_TAKEN, fontarisca_yield(before(trial)->table, WORDS, trial->answer, FONTARISCA_ANSWER_WORDS, 0), 2, 0, 0);
     expect_words(trial, FONTARISCA_SENT, step(trial), 1, 1, 0);
-    expect_words(trial, FONTARISCA_TAKEN, fontarisca_end(before(trial)->table, WORDS, trial->answer, 3, 0), 1, 0, 0);
+    expect_words(trial, FONTARISCA_TAKEN, fontarisca_end(before(trial)->table, WORDS, trial->answer, FONTARISCA_ANSWER_WORDS, 0), 1, 0, 0);
     expect_words(trial, FONTARISCA_GO, step(trial), 2, 0, 0);
-    expect_words(trial, FONTARISCA_TAKEN, fontarisca_end(before(trial)->table, WORDS, trial->answer, 3, 0), 2, 0, 0);
+    expect_words(trial, FONTARISCA_TAKEN, fontarisca_end(before(trial)->table, WORDS, trial->answer, FONTARISCA_ANSWER_WORDS, 0), 2, 0, 0);
     expect_words(trial, FONTARISCA_IDLE, step(trial), 0, 0, 0);
 }
 
@@ -139,8 +147,8 @@ int main(int argc, char **argv)
     trial.lent_table = lent_memory((enum lent_guard)guard, WORDS);
     trial.lent_answer = lent_memory((enum lent_guard)guard, FONTARISCA_ANSWER_WORDS);
     trial.lent_list = lent_memory((enum lent_guard)guard, 2);
-    trial.table = memset(lent_words(&trial.lent_table, WORDS), 0, 4 * WORDS);
-    trial.answer = memset(lent_words(&trial.lent_answer, FONTARISCA_ANSWER_WORDS), 0, 4 * FONTARISCA_ANSWER_WORDS);
+    trial.table = memset(lent_words(&trial.lent_table, WORDS), 0, sizeof trial.table_before);
+    trial.answer = memset(lent_words(&trial.lent_answer, FONTARISCA_ANSWER_WORDS), 0, sizeof trial.answer_before);
     try_set_up(&trial);
     try_sender(&trial);
     try_receiver(&trial);

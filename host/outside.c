@@ -40,9 +40,9 @@ static int calls_work(enum lent_guard guard, int lacking)
     const uint32_t *lent_pairs = slice(guard, pairs, 2 * CHANNELS, lacking == PAIRS);
     const uint32_t *lent_guards = slice(guard, guards, CHANNELS, lacking == GUARDS);
     return fontarisca_set_up(CORES, PROCESSES, CHANNELS, lent_pairs, 2 * CHANNELS, table, WORDS) == FONTARISCA_BUILT
-           && fontarisca_step(table, WORDS, answer, 3, 0) == FONTARISCA_MOVED
-           && fontarisca_step(table, WORDS, answer, 3, 0) == FONTARISCA_GO
-           && fontarisca_choose(table, WORDS, answer, 3, 0, lent_guards, CHANNELS) == FONTARISCA_TAKEN;
+           && fontarisca_step(table, WORDS, answer, FONTARISCA_ANSWER_WORDS, 0) == FONTARISCA_MOVED
+           && fontarisca_step(table, WORDS, answer, FONTARISCA_ANSWER_WORDS, 0) == FONTARISCA_GO
+           && fontarisca_choose(table, WORDS, answer, FONTARISCA_ANSWER_WORDS, 0, lent_guards, CHANNELS) == FONTARISCA_TAKEN;
 }
 
 /* the signal that a program of its own dies of, 0 where it ends well, -1 where it ends badly */

@@ -45,8 +45,16 @@ enum fontarisca_number {
 #define FONTARISCA_MAX_GUARDS 8
 #define FONTARISCA_ANSWER_WORDS 3
 
+/* how many words the header has, and the record of a core, of a process, of a channel (docs/PACKING.md says what each holds) */
+#define FONTARISCA_HEADER_SIZE 8
+#define FONTARISCA_CORE_STRIDE 16
+#define FONTARISCA_PROCESS_STRIDE 24
+#define FONTARISCA_CHANNEL_STRIDE 4
+
 /* how many words a table of k cores, n processes and m channels has */
-#define FONTARISCA_TABLE_WORDS(k, n, m) (8 + 16 * (size_t)(k) + 24 * (size_t)(n) + 4 * (size_t)(m))
+#define FONTARISCA_TABLE_WORDS(k, n, m)                                                                     \
+    (FONTARISCA_HEADER_SIZE + FONTARISCA_CORE_STRIDE * (size_t)(k) + FONTARISCA_PROCESS_STRIDE * (size_t)(n) \
+     + FONTARISCA_CHANNEL_STRIDE * (size_t)(m))
 
 /* Builds the table, whatever it held: BUILT; or SIZE, PAIRS, ROOM, NAME, SELF, and writes nothing. pairs: writer, reader of each channel. */
 uint32_t fontarisca_set_up(uint32_t k, uint32_t n, uint32_t m, const uint32_t *pairs, size_t pairs_len, uint32_t *table, size_t table_len);

@@ -4,6 +4,7 @@ use std::collections::BTreeMap;
 
 use crate::generate::{self, Size};
 use crate::lent::Edge;
+use crate::model::layout::{channel, header, process};
 use crate::model::*;
 use crate::random::Random;
 use crate::script::*;
@@ -89,7 +90,7 @@ impl Side {
                 }
                 Err(refusal) => Reply::refused(refusal),
             },
-            Call::Act { .. } if invocation.answer_length != 3 => Reply::refused(number::ANSWER),
+            Call::Act { .. } if invocation.answer_length != ANSWER_WORDS => Reply::refused(number::ANSWER),
             Call::Act { .. } if invocation.table_change != 0 => Reply::refused(number::DAMAGED),
             Call::Act { core, action } => match &mut self.state {
                 Some(state) => state.act(*core, action),
@@ -240,7 +241,9 @@ fn odd(random: &mut Random, side: &Side, core: u32) -> Invocation {
     }
     if random.chance(40) {
         let length = side.table.len() as i32;
-        invocation.table_change = random.pick(&[-1, 1, 4, -4, 24, -length, 1 - length, 2 - length, 8 - length]);
+        let [header, process, channel] = [header::WORDS, process::WORDS, channel::WORDS].map(|words| words as i32);
+        let changes = [-1, 1, channel, -channel, process, -length, 1 - length, 2 - length, header - length];
+        invocation.table_change = random.pick(&changes);
     }
     if random.chance(40) {
         let any = random.word();

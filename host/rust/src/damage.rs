@@ -2,6 +2,7 @@
 
 use crate::compare::Options;
 use crate::generate::{self, Size};
+use crate::model::layout::{channel, core, header, process};
 use crate::model::*;
 use crate::random::Random;
 use crate::script::*;
@@ -121,7 +122,8 @@ impl Run<'_> {
     /// The table as it is, and with other lengths.
     fn lengths(&mut self, table: &[u32]) -> Result<(), Box<Failure>> {
         self.check(table, &[])?;
-        for length in [0, 1, 2, 3, 7, 8, table.len() - 1, table.len() + 1, table.len() + 24] {
+        let all = table.len();
+        for length in [0, 1, 2, 3, header::WORDS - 1, header::WORDS, all - 1, all + 1, all + process::WORDS] {
             let mut other = table.to_vec();
             other.resize(length, 0);
             self.check(&other, &[])?;
@@ -168,7 +170,7 @@ impl Run<'_> {
 
     /// The call to make on a changed table.
     fn invocation(&mut self, changed: &[u32]) -> Invocation {
-        let cores = changed.first().copied().unwrap_or(1).clamp(1, 8);
+        let cores = changed.get(header::CORES).copied().unwrap_or(1).clamp(1, 8);
         let core = self.random.below(cores);
         let action = match sound(changed) {
             Some(state) if core < state.cores.len() as u32 => generate::action(&mut self.random, &state, core as usize),
@@ -188,9 +190,11 @@ impl Run<'_> {
 /// same word has in the records beside.
 fn values(table: &[u32], place: usize) -> Vec<u32> {
     let word = table[place];
-    let at = |distance: i64| table.get((place as i64 + distance) as usize).copied().unwrap_or(0);
+    let at = |place: usize| table.get(place).copied().unwrap_or(0);
     let mut values = vec![0, 1, word.wrapping_add(1), word.wrapping_sub(1), u32::MAX];
-    values.extend([-1, 1, -24, 24, -16, 16, -4, 4].map(at));
+    for distance in [1, process::WORDS, core::WORDS, channel::WORDS] {
+        values.extend([place.wrapping_sub(distance), place + distance].map(at));
+    }
     values.retain(|value| *value != word);
     values.sort_unstable();
     values.dedup();

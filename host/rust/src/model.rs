@@ -1,5 +1,6 @@
 //! The model: the rules of document 01 on ordinary queues, the packing, the soundness test, the touched items.
 
+pub mod layout;
 mod numbers;
 mod packing;
 mod rules;
@@ -7,8 +8,9 @@ mod soundness;
 mod state;
 mod touched;
 
+pub use layout::{table_length, ANSWER_WORDS};
 pub use numbers::{name, Number, ALL as ALL_NUMBERS};
-pub use packing::{pack, pack_into, table_length, PLACES};
+pub use packing::{pack, pack_into, PLACES};
 pub use rules::{set_up, Action, Reply, Wiring};
 pub use soundness::{read, sound, valid};
 pub use state::{
@@ -64,7 +66,7 @@ pub fn act_on_table(
     sound: impl Fn(&[u32]) -> Option<State>,
     rule: impl Fn(&mut State) -> Reply,
 ) -> Reply {
-    if answer.len() != 3 {
+    if answer.len() != ANSWER_WORDS {
         return Reply::refused(number::ANSWER);
     }
     let Some(mut state) = sound(table) else {

@@ -3,6 +3,7 @@
 
 mod choice;
 mod exchange;
+mod layout;
 mod queues;
 mod records;
 mod requests;
@@ -11,6 +12,7 @@ mod soundness;
 pub use records::Card;
 pub use soundness::sound;
 
+use self::layout::{header, ANSWER_WORDS};
 use crate::model::number::*;
 use crate::model::{Action, Call, Machine, Number};
 
@@ -59,11 +61,11 @@ impl Machine for Plain {
 
 /// What a call is refused for before its rule is looked at.
 pub fn refused_first(table: &[u32], answer: &[u32], core: u32) -> Option<Number> {
-    if answer.len() != 3 {
+    if answer.len() != ANSWER_WORDS {
         Some(ANSWER)
     } else if !sound(table) {
         Some(DAMAGED)
-    } else if core >= table[0] {
+    } else if core >= table[header::CORES] {
         Some(CORE)
     } else {
         None
@@ -73,9 +75,7 @@ pub fn refused_first(table: &[u32], answer: &[u32], core: u32) -> Option<Number>
 /// Writes the words of an accepted call, and gives its number.
 pub fn tell(answer: &mut [u32], reply: Reply) -> Number {
     if reply.number < FIRST_REFUSAL {
-        answer[0] = reply.process;
-        answer[1] = reply.channel;
-        answer[2] = reply.value;
+        answer.copy_from_slice(&[reply.process, reply.channel, reply.value]);
     }
     reply.number
 }

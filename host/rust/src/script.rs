@@ -63,7 +63,7 @@ pub fn fresh_answer(lent: &mut Lent, length: usize) -> &mut [u32] {
 
 /// A plain call with an answer slice and a table of the right lengths.
 pub fn plain(core: u32, action: Action) -> Invocation {
-    Invocation { call: Call::Act { core, action }, answer_length: 3, table_change: 0 }
+    Invocation { call: Call::Act { core, action }, answer_length: ANSWER_WORDS, table_change: 0 }
 }
 
 /// A call for people.
@@ -88,7 +88,7 @@ impl Invocation {
     /// The call for people, with what is odd about its slices.
     pub fn describe(&self) -> String {
         let mut text = describe(&self.call);
-        if self.answer_length != 3 && !matches!(self.call, Call::SetUp(_)) {
+        if self.answer_length != ANSWER_WORDS && !matches!(self.call, Call::SetUp(_)) {
             text += &format!(", answer of {} words", self.answer_length);
         }
         if self.table_change != 0 {

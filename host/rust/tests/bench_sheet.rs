@@ -2,6 +2,7 @@
 
 use std::collections::VecDeque;
 
+use fontarisca_host::model::layout::{channel, Layout};
 use fontarisca_host::model::number::*;
 use fontarisca_host::model::*;
 
@@ -26,9 +27,15 @@ fn set_up_number(wiring: &Wiring, length: usize) -> Number {
 }
 
 /// A call on core 0 to 7 gives this number and these words, and leaves a sound state that packs and reads back.
-fn expect(state: &mut State, core: u32, action: Action, number: Number, words: [u32; 3]) {
+fn expect(state: &mut State, core: u32, action: Action, number: Number, words: [u32; ANSWER_WORDS]) {
     assert_eq!(state.act(core, &action), Reply { number, words }, "{action:?}");
     assert_eq!(sound(&pack(state)).as_ref(), Some(&*state));
+}
+
+/// The word of channel 1 in the table.
+fn channel_word(state: &State) -> u32 {
+    let layout = Layout { cores: state.cores.len(), processes: state.processes.len() };
+    pack(state)[layout.channel(1) + channel::WORD]
 }
 
 /// A step that answers MOVED.
@@ -54,17 +61,18 @@ fn only_running(cores: u32, processes: u32, pairs: &[(u32, u32)], running: u32) 
 #[test]
 fn case_01_smallest_table() {
     let smallest = wiring(1, 1, &[]);
-    assert_eq!(set_up_number(&smallest, 48), BUILT);
-    assert_eq!(set_up_number(&smallest, 47), ROOM);
-    assert_eq!(set_up_number(&smallest, 49), ROOM);
+    let length = table_length(1, 1, 0);
+    assert_eq!(set_up_number(&smallest, length), BUILT);
+    assert_eq!(set_up_number(&smallest, length - 1), ROOM);
+    assert_eq!(set_up_number(&smallest, length + 1), ROOM);
 }
 
 #[test]
 fn case_02_largest_table() {
     let pairs: Vec<(u32, u32)> = (0..256).map(|c| (c + 1, (c + 1) % 256 + 1)).collect();
-    assert_eq!(set_up_number(&wiring(8, 256, &pairs), 7304), BUILT);
-    assert_eq!(set_up_number(&wiring(8, 257, &pairs), 7328), SIZE);
-    assert_eq!(set_up_number(&wiring(8, 257, &pairs), 7304), SIZE);
+    assert_eq!(set_up_number(&wiring(8, 256, &pairs), table_length(8, 256, 256)), BUILT);
+    assert_eq!(set_up_number(&wiring(8, 257, &pairs), table_length(8, 257, 256)), SIZE);
+    assert_eq!(set_up_number(&wiring(8, 257, &pairs), table_length(8, 256, 256)), SIZE);
 }
 
 #[test]
@@ -132,7 +140,7 @@ fn case_06_two_cores() {
     moved(&mut state, 1);
     expect(&mut state, 1, Action::Step, SLEPT, [2, 0, 0]);
     moved(&mut state, 0);
-    assert_eq!(pack(&state)[8 + 32 + 48 + 2], 2);
+    assert_eq!(channel_word(&state), 2);
     moved(&mut state, 0);
     moved(&mut state, 0);
     expect(&mut state, 0, Action::Step, SENT, [1, 1, 0]);
@@ -161,7 +169,7 @@ fn case_08_waiting_guard() {
         moved(&mut state, 0);
     }
     expect(&mut state, 0, Action::Step, SLEPT, [2, 0, 0]);
-    assert_eq!(pack(&state)[8 + 16 + 48 + 2], 5);
+    assert_eq!(channel_word(&state), 5);
     let expected = Alternation { enabling: false, not_ready: false, waiting: true, count: 2 };
     assert_eq!(state.process(2).alternation, expected);
 }

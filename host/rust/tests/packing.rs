@@ -14,9 +14,15 @@ const BY_HAND: [u32; 76] = [
 ];
 
 #[test]
+fn lengths() {
+    assert_eq!(table_length(1, 1, 0), 48);
+    assert_eq!(table_length(8, 256, 256), 7304);
+}
+
+#[test]
 fn table_by_hand() {
     let wiring = Wiring { cores: 1, processes: 2, channels: 1, pairs: vec![1, 2] };
-    let mut state = set_up(&wiring, 76).expect("a good set-up");
+    let mut state = set_up(&wiring, BY_HAND.len()).expect("a good set-up");
     let send = Action::Send { channel: 1, value: 77 };
     for action in [&Action::Step, &Action::Step, &send, &Action::Step, &Action::Step] {
         assert!(state.act(0, action).accepted());

@@ -36,7 +36,7 @@ pub enum Action {
 #[derive(Clone, Copy, Debug, PartialEq, Eq)]
 pub struct Reply {
     pub number: Number,
-    pub words: [u32; 3],
+    pub words: [u32; super::ANSWER_WORDS],
 }
 
 impl Reply {

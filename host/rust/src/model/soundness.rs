@@ -2,6 +2,7 @@
 
 use std::collections::VecDeque;
 
+use super::layout::{channel, core, header, process, progress, table_length, task, Layout};
 use super::packing::*;
 use super::state::*;
 
@@ -13,7 +14,8 @@ pub fn sound(table: &[u32]) -> Option<State> {
 
 /// The state that the words say, where they say one; it may not be valid.
 pub fn read(table: &[u32]) -> Option<State> {
-    let (cores, processes, channels) = (*table.first()?, *table.get(1)?, *table.get(2)?);
+    let [cores, processes, channels] =
+        [*table.get(header::CORES)?, *table.get(header::PROCESSES)?, *table.get(header::CHANNELS)?];
     if !sizes_fit(cores, processes, channels) || table.len() != table_length(cores, processes, channels) {
         return None;
     }
@@ -36,20 +38,21 @@ fn flag(word: u32) -> Option<bool> {
 
 /// A core's record and its queues.
 fn read_core(table: &[u32], layout: Layout, k: usize) -> Option<Core> {
-    let words = &table[layout.core(k)..][..CORE_WORDS];
-    let work = match (words[0], words[1]) {
-        (0, 0) => Work::Free(Task::None),
-        (0, 1) => Work::Free(Task::Trigger(words[2])),
-        (0, 2) => Work::Free(Task::Wake(words[2])),
+    let words = &table[layout.core(k)..][..core::WORDS];
+    let of = words[core::TASK_PROCESS];
+    let work = match (words[core::RUNNING], words[core::TASK]) {
+        (0, task::NONE) => Work::Free(Task::None),
+        (0, task::TRIGGER) => Work::Free(Task::Trigger(of)),
+        (0, task::WAKE) => Work::Free(Task::Wake(of)),
         (0, _) => return None,
         (p, _) => Work::Running(p),
     };
     let mut run = VecDeque::new();
-    for head in chain(table, layout, words[8], 23)? {
-        run.push_back(chain(table, layout, head, 20)?);
+    for head in chain(table, layout, words[core::RUN_FIRST], process::BATCH_AFTER)? {
+        run.push_back(chain(table, layout, head, process::NEXT)?);
     }
-    let active = chain(table, layout, words[3], 20)?;
-    Some(Core { work, active, dispatch: words[6], mark: flag(words[7])?, run })
+    let active = chain(table, layout, words[core::ACTIVE_FIRST], process::NEXT)?;
+    Some(Core { work, active, dispatch: words[core::DISPATCH], mark: flag(words[core::MARK])?, run })
 }
 
 /// The processes of a chain through a word of their records; nothing where it goes round or astray.
@@ -68,45 +71,50 @@ fn chain(table: &[u32], layout: Layout, first: u32, link: usize) -> Option<VecDe
 
 /// A process's record without its links.
 fn read_process(words: &[u32]) -> Option<Process> {
-    let place = *PLACES.get(words[0].checked_sub(1)? as usize)?;
+    let place = PLACES.into_iter().find(|place| place_number(*place) == words[process::PLACE])?;
     let alternation = Alternation {
-        enabling: flag(words[2])?,
-        not_ready: flag(words[3])?,
-        waiting: flag(words[4])?,
-        count: words[5],
+        enabling: flag(words[process::ENABLING])?,
+        not_ready: flag(words[process::NOT_READY])?,
+        waiting: flag(words[process::WAITING])?,
+        count: words[process::COUNT],
     };
-    Some(Process { place, data: words[1], alternation, progress: read_progress(words)? })
+    Some(Process { place, data: words[process::DATA], alternation, progress: read_progress(words)? })
 }
 
 /// A process's progress.
 fn read_progress(words: &[u32]) -> Option<Progress> {
-    let number = words[6];
-    let channel = words[7];
+    let (number, channel) = (words[process::PROGRESS], words[process::CHANNEL]);
     match number {
-        0 => Some(Progress::Nothing),
-        1..=5 => Some(Progress::Exchange { side: Side::Send, channel, at: read_exchange(number, words[8])? }),
-        6..=10 => Some(Progress::Exchange { side: Side::Receive, channel, at: read_exchange(number - 5, words[8])? }),
-        11..=19 => {
-            let count = words[9] as usize;
-            let guards = if count <= 8 { words[12..][..count].to_vec() } else { return None };
-            Some(Progress::Choice { guards, at: read_choice(number, words[10], words[11])? })
-        }
-        20 => Some(Progress::Due(Outcome::Go)),
-        21 => Some(Progress::Due(Outcome::Sent(channel))),
-        22 => Some(Progress::Due(Outcome::Got(channel))),
-        23 => Some(Progress::Due(Outcome::Chose(channel))),
-        _ => None,
+        progress::NOTHING => Some(Progress::Nothing),
+        progress::DUE_GO => Some(Progress::Due(Outcome::Go)),
+        progress::DUE_SENT => Some(Progress::Due(Outcome::Sent(channel))),
+        progress::DUE_GOT => Some(Progress::Due(Outcome::Got(channel))),
+        progress::DUE_CHOSE => Some(Progress::Due(Outcome::Chose(channel))),
+        _ => match read_exchange(number, words[process::PARTNER]) {
+            Some((side, at)) => Some(Progress::Exchange { side, channel, at }),
+            None => {
+                let at = read_choice(number, words[process::GUARD_INDEX], words[process::FIRST_READY])?;
+                let places = &words[process::FIRST_GUARD..=process::LAST_GUARD];
+                let guards = places.get(..words[process::GUARDS] as usize)?.to_vec();
+                Some(Progress::Choice { guards, at })
+            }
+        },
     }
 }
 
-/// The stage of an exchange by its number as a sender's.
-fn read_exchange(number: u32, partner: u32) -> Option<Exchange> {
+/// The stage of send or receive by its number.
+fn read_exchange(number: u32, partner: u32) -> Option<(Side, Exchange)> {
     match number {
-        1 => Some(Exchange::Look),
-        2 => Some(Exchange::Park),
-        3 => Some(Exchange::Copy(partner)),
-        4 => Some(Exchange::Clear(partner)),
-        5 => Some(Exchange::Wake(partner)),
+        progress::SEND_LOOK => Some((Side::Send, Exchange::Look)),
+        progress::SEND_PARK => Some((Side::Send, Exchange::Park)),
+        progress::SEND_COPY => Some((Side::Send, Exchange::Copy(partner))),
+        progress::SEND_CLEAR => Some((Side::Send, Exchange::Clear(partner))),
+        progress::SEND_WAKE => Some((Side::Send, Exchange::Wake(partner))),
+        progress::RECEIVE_LOOK => Some((Side::Receive, Exchange::Look)),
+        progress::RECEIVE_PARK => Some((Side::Receive, Exchange::Park)),
+        progress::RECEIVE_COPY => Some((Side::Receive, Exchange::Copy(partner))),
+        progress::RECEIVE_CLEAR => Some((Side::Receive, Exchange::Clear(partner))),
+        progress::RECEIVE_WAKE => Some((Side::Receive, Exchange::Wake(partner))),
         _ => None,
     }
 }
@@ -115,28 +123,29 @@ fn read_exchange(number: u32, partner: u32) -> Option<Exchange> {
 fn read_choice(number: u32, index: u32, first: u32) -> Option<Choice> {
     let first = (first != 0).then_some(first);
     match number {
-        11 => Some(Choice::Look(index)),
-        12 => Some(Choice::Raise(index)),
-        13 => Some(Choice::Place(index)),
-        14 => Some(Choice::ReadyFromLook(index)),
-        15 => Some(Choice::ReadyFromPlace(index)),
-        16 => Some(Choice::Wait),
-        17 => Some(Choice::Disable { index, first }),
-        18 => Some(Choice::Lower { index, first }),
-        19 => Some(Choice::Finish { first }),
+        progress::CHOOSE_LOOK => Some(Choice::Look(index)),
+        progress::CHOOSE_RAISE => Some(Choice::Raise(index)),
+        progress::CHOOSE_PLACE => Some(Choice::Place(index)),
+        progress::CHOOSE_READY_FROM_LOOK => Some(Choice::ReadyFromLook(index)),
+        progress::CHOOSE_READY_FROM_PLACE => Some(Choice::ReadyFromPlace(index)),
+        progress::CHOOSE_WAIT => Some(Choice::Wait),
+        progress::CHOOSE_DISABLE => Some(Choice::Disable { index, first }),
+        progress::CHOOSE_LOWER => Some(Choice::Lower { index, first }),
+        progress::CHOOSE_FINISH => Some(Choice::Finish { first }),
         _ => None,
     }
 }
 
 /// A channel's record.
 fn read_channel(words: &[u32]) -> Channel {
-    let process = words[2] / 2;
-    let word = match words[2] {
+    let process = words[channel::WORD] / 2;
+    let word = match words[channel::WORD] {
         0 => Word::Nobody,
         odd if odd % 2 == 1 => Word::Choosing(process),
         _ => Word::Plain(process),
     };
-    Channel { writer: words[0], reader: words[1], word, transfers: words[3] }
+    let (writer, reader) = (words[channel::WRITER], words[channel::READER]);
+    Channel { writer, reader, word, transfers: words[channel::TRANSFERS] }
 }
 
 /// Whether a state is one that a sound table may hold.

@@ -17,7 +17,7 @@ const fn call(name: &'static str, fault: fn(&mut [u32], &mut [u32], &Call) -> Nu
 /// The faults.
 const FAULTS: &[Mutant] = &[
     call("the core is looked at before the table", |table, answer, call| match call {
-        Call::Act { core, .. } if answer.len() == 3 && *core >= cores(table) => CORE,
+        Call::Act { core, .. } if answer.len() == ANSWER_WORDS && *core >= cores(table) => CORE,
         _ => Model.call(table, answer, call),
     }),
     call("the table is looked at before the answer", |table, answer, call| match call {
@@ -25,7 +25,7 @@ const FAULTS: &[Mutant] = &[
         _ => Model.call(table, answer, call),
     }),
     call("an answer of four words is let pass", |table, answer, call| match call {
-        Call::Act { .. } if answer.len() == 4 => Model.call(table, &mut answer[..3], call),
+        Call::Act { .. } if answer.len() == ANSWER_WORDS + 1 => Model.call(table, &mut answer[..ANSWER_WORDS], call),
         _ => Model.call(table, answer, call),
     }),
     call("a refusal writes the answer", |table, answer, call| {
@@ -102,5 +102,5 @@ const FAULTS: &[Mutant] = &[
 
 /// The number of cores that a table says it has.
 fn cores(table: &[u32]) -> u32 {
-    table.first().copied().unwrap_or(0)
+    table.get(layout::header::CORES).copied().unwrap_or(0)
 }

@@ -1,6 +1,7 @@
 //! Faulty soundness tests.
 
 use super::{Fault, Mutant};
+use crate::model::layout::{channel, core, header, place, process, progress, task, Layout, Part};
 use crate::model::*;
 
 /// Every variant with a faulty soundness test.
@@ -13,30 +14,26 @@ const fn test(name: &'static str, fault: fn(&[u32]) -> Option<State>) -> Mutant 
     Mutant { name, fault: Fault::Sound(fault) }
 }
 
-/// Which part of a table a word belongs to, and which word of its record it is.
-#[derive(Clone, Copy)]
-enum Part {
-    Header(usize),
-    Core(usize, usize),
-    Process(u32, usize),
-    Channel(usize),
+/// Where things stand in a table with a good header.
+fn layout_of(table: &[u32]) -> Layout {
+    Layout { cores: table[header::CORES] as usize, processes: table[header::PROCESSES] as usize }
 }
 
 /// The part that a word of a table with a good header belongs to.
 fn part(table: &[u32], place: usize) -> Part {
-    let processes = 8 + 16 * table[0] as usize;
-    let channels = processes + 24 * table[1] as usize;
-    match place {
-        0..=7 => Part::Header(place),
-        _ if place < processes => Part::Core((place - 8) / 16, (place - 8) % 16),
-        _ if place < channels => Part::Process(((place - processes) / 24 + 1) as u32, (place - processes) % 24),
-        _ => Part::Channel((place - channels) % 4),
-    }
+    layout_of(table).part(place)
+}
+
+/// A word of core k.
+fn word_of_core(table: &[u32], k: usize, word: usize) -> u32 {
+    table[layout_of(table).core(k) + word]
 }
 
 /// The right test on a table in which some words are put right first.
 fn after_repair(table: &[u32], repair: impl Fn(Part, u32) -> u32) -> Option<State> {
-    let header_good = table.len() > 8 && (1..=8).contains(&table[0]) && (1..=256).contains(&table[1]);
+    let header_good = table.len() > header::WORDS
+        && (1..=8).contains(&table[header::CORES])
+        && (1..=256).contains(&table[header::PROCESSES]);
     if !header_good {
         return sound(table);
     }
@@ -77,57 +74,57 @@ fn strict(table: &[u32], wanted: impl Fn(&State) -> bool) -> Option<State> {
 const RANGE_FAULTS: &[Mutant] = &[
     test("a dispatch count of 33 is let pass", |table| {
         after_repair(table, |part, word| match part {
-            Part::Core(_, 6) if word == 33 => 32,
+            Part::Core(_, core::DISPATCH) if word == 33 => 32,
             _ => word,
         })
     }),
     test("a count of 10 is let pass", |table| {
         after_repair(table, |part, word| match part {
-            Part::Process(_, 5) if word == 10 => 9,
+            Part::Process(_, process::COUNT) if word == 10 => 9,
             _ => word,
         })
     }),
     test("a mark of 2 is let pass", |table| {
         after_repair(table, |part, word| match part {
-            Part::Core(_, 7) if word == 2 => 1,
+            Part::Core(_, core::MARK) if word == 2 => 1,
             _ => word,
         })
     }),
     test("flags above 1 are let pass", |table| {
         after_repair(table, |part, word| match part {
-            Part::Process(_, 2..=4) => word.min(1),
+            Part::Process(_, process::ENABLING | process::NOT_READY | process::WAITING) => word.min(1),
             _ => word,
         })
     }),
     test("a place of 5 is let pass", |table| {
         after_repair(table, |part, word| match part {
-            Part::Process(_, 0) if word == 5 => 4,
+            Part::Process(_, process::PLACE) if word == place::ENDED + 1 => place::ENDED,
             _ => word,
         })
     }),
     test("an outcome of 24 is let pass", |table| {
         after_repair(table, |part, word| match part {
-            Part::Process(_, 6) if word == 24 => 23,
+            Part::Process(_, process::PROGRESS) if word == progress::DUE_CHOSE + 1 => progress::DUE_CHOSE,
             _ => word,
         })
     }),
     test("a word that says nobody is choosing is let pass", |table| {
         after_repair(table, |part, word| match part {
-            Part::Channel(2) if word == 1 => 0,
+            Part::Channel(channel::WORD) if word == 1 => 0,
             _ => word,
         })
     }),
     test("a word of process N+1 is let pass", |table| {
-        let after_last = table.get(1).copied().unwrap_or(0).wrapping_add(1);
+        let after_last = table.get(header::PROCESSES).copied().unwrap_or(0).wrapping_add(1);
         after_repair(table, |part, word| match part {
-            Part::Channel(2) if word / 2 == after_last => 0,
+            Part::Channel(channel::WORD) if word / 2 == after_last => 0,
             _ => word,
         })
     }),
     test("a task of process N+1 is let pass", |table| {
-        let after_last = table.get(1).copied().unwrap_or(0).wrapping_add(1);
+        let after_last = table.get(header::PROCESSES).copied().unwrap_or(0).wrapping_add(1);
         after_repair(table, |part, word| match part {
-            Part::Core(_, 2) if word == after_last => 1,
+            Part::Core(_, core::TASK_PROCESS) if word == after_last => 1,
             _ => word,
         })
     }),
@@ -183,47 +180,59 @@ fn shorten_repeats(state: &mut State) {
 /// Words that nobody looks at.
 const UNREAD_FAULTS: &[Mutant] = &[
     test("the rest of the header isn't looked at", |table| {
-        not_looking(table, |part| matches!(part, Part::Header(3..)))
+        not_looking(table, |part| matches!(part, Part::Header(header::UNUSED..)))
     }),
     test("the rest of a core's record isn't looked at", |table| {
-        not_looking(table, |part| matches!(part, Part::Core(_, 10..)))
+        not_looking(table, |part| matches!(part, Part::Core(_, core::UNUSED..)))
     }),
     test("a task beside a running process is let pass", |table| {
-        not_looking(table, |part| matches!(part, Part::Core(core, 1 | 2) if table[8 + 16 * core] != 0))
+        let runs = |k| word_of_core(table, k, core::RUNNING) != 0;
+        not_looking(table, |part| matches!(part, Part::Core(k, core::TASK | core::TASK_PROCESS) if runs(k)))
     }),
     test("the process of no task isn't looked at", |table| {
-        not_looking(table, |part| matches!(part, Part::Core(core, 2) if table[9 + 16 * core] == 0))
+        let no_task = |k| word_of_core(table, k, core::TASK) == task::NONE;
+        not_looking(table, |part| matches!(part, Part::Core(k, core::TASK_PROCESS) if no_task(k)))
     }),
     test("the active queue's last isn't looked at", |table| {
-        not_looking(table, |part| matches!(part, Part::Core(_, 4)))
+        not_looking(table, |part| matches!(part, Part::Core(_, core::ACTIVE_LAST)))
     }),
     test("the active queue's size isn't looked at", |table| {
-        not_looking(table, |part| matches!(part, Part::Core(_, 5)))
+        not_looking(table, |part| matches!(part, Part::Core(_, core::ACTIVE_SIZE)))
     }),
-    test("the run queue's last isn't looked at", |table| not_looking(table, |part| matches!(part, Part::Core(_, 9)))),
-    test("unused channels aren't looked at", |table| not_looking(table, |part| matches!(part, Part::Process(_, 7)))),
-    test("unused partners aren't looked at", |table| not_looking(table, |part| matches!(part, Part::Process(_, 8)))),
+    test("the run queue's last isn't looked at", |table| {
+        not_looking(table, |part| matches!(part, Part::Core(_, core::RUN_LAST)))
+    }),
+    test("unused channels aren't looked at", |table| {
+        not_looking(table, |part| matches!(part, Part::Process(_, process::CHANNEL)))
+    }),
+    test("unused partners aren't looked at", |table| {
+        not_looking(table, |part| matches!(part, Part::Process(_, process::PARTNER)))
+    }),
     test("unused guards aren't looked at", |table| {
-        not_looking(table, |part| matches!(part, Part::Process(_, 12..=19)))
+        not_looking(table, |part| matches!(part, Part::Process(_, process::FIRST_GUARD..=process::LAST_GUARD)))
     }),
     test("unused numbers of guards aren't looked at", |table| {
-        not_looking(table, |part| matches!(part, Part::Process(_, 9)))
+        not_looking(table, |part| matches!(part, Part::Process(_, process::GUARDS)))
     }),
     test("unused indices aren't looked at", |table| {
-        not_looking(table, |part| matches!(part, Part::Process(_, 10 | 11)))
+        not_looking(table, |part| matches!(part, Part::Process(_, process::GUARD_INDEX | process::FIRST_READY)))
     }),
     test("the link of one in no queue isn't looked at", |table| {
-        not_looking(table, |part| matches!(part, Part::Process(_, 20)))
+        not_looking(table, |part| matches!(part, Part::Process(_, process::NEXT)))
     }),
-    test("a batch's last isn't looked at", |table| not_looking(table, |part| matches!(part, Part::Process(_, 21)))),
-    test("a batch's size isn't looked at", |table| not_looking(table, |part| matches!(part, Part::Process(_, 22)))),
+    test("a batch's last isn't looked at", |table| {
+        not_looking(table, |part| matches!(part, Part::Process(_, process::BATCH_LAST)))
+    }),
+    test("a batch's size isn't looked at", |table| {
+        not_looking(table, |part| matches!(part, Part::Process(_, process::BATCH_SIZE)))
+    }),
     test("batch links of others aren't looked at", |table| {
-        not_looking(table, |part| matches!(part, Part::Process(_, 23)))
+        not_looking(table, |part| matches!(part, Part::Process(_, process::BATCH_AFTER)))
     }),
     test("sizes of batches after the third aren't looked at", |table| {
         let state = read(table)?;
         let deep = |p: u32| state.cores.iter().any(|core| core.run.iter().skip(3).any(|b| b.front() == Some(&p)));
-        not_looking(table, |part| matches!(part, Part::Process(p, 22) if deep(p)))
+        not_looking(table, |part| matches!(part, Part::Process(p, process::BATCH_SIZE) if deep(p)))
     }),
 ];
 

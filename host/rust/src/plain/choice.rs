@@ -1,19 +1,12 @@
 //! The steps of choosing, and the trigger.
 
-use super::records::{channel, core, due, process, task, Card};
+use super::layout::progress::{
+    DISABLE, DUE_CHOSE, FINISH, LOOK, LOWER, PLACE, RAISE, READY_FROM_LOOK, READY_FROM_PLACE, WAIT,
+};
+use super::layout::{channel, process, task};
+use super::records::Card;
 use super::Reply;
 use crate::model::number::FAULT;
-
-/// The numbers of the stages.
-const LOOK: u32 = 11;
-const RAISE: u32 = 12;
-const PLACE: u32 = 13;
-const READY_FROM_LOOK: u32 = 14;
-const READY_FROM_PLACE: u32 = 15;
-const WAIT: u32 = 16;
-const DISABLE: u32 = 17;
-const LOWER: u32 = 18;
-const FINISH: u32 = 19;
 
 /// The highest count of an alternation state.
 const COUNT_LIMIT: u32 = 9;
@@ -135,10 +128,10 @@ impl Card<'_> {
         let chosen = record[process::GUARDS + ready - 1];
         record[process::COUNT] -= 1;
         if record[process::COUNT] == 0 {
-            return self.report(p, due::CHOSE, chosen);
+            return self.report(p, DUE_CHOSE, chosen);
         }
         record[process::PROGRESS..process::NEXT].fill(0);
-        record[process::PROGRESS] = due::CHOSE;
+        record[process::PROGRESS] = DUE_CHOSE;
         record[process::CHANNEL] = chosen;
         self.sleep(core, p, task::NONE, 0)
     }
@@ -153,8 +146,7 @@ impl Card<'_> {
         record[process::NOT_READY] = 0;
         record[process::WAITING] = 0;
         let (task, of) = if wakes { (task::WAKE, q) } else { (task::NONE, 0) };
-        self.cores[core][core::TASK] = task;
-        self.cores[core][core::TASK_OF] = of;
+        self.next_task(core, task, of);
         Reply::moved()
     }
 }

@@ -2,7 +2,8 @@
 
 use std::mem::replace;
 
-use super::records::{channel, due, place, process, task, Card};
+use super::layout::{channel, core, place, process, progress, task};
+use super::records::Card;
 use super::Reply;
 use crate::model::number::*;
 
@@ -15,27 +16,21 @@ pub enum Side {
 
 impl Side {
     /// What is added to the number of a stage of send.
-    fn offset(self) -> u32 {
+    pub fn offset(self) -> u32 {
         match self {
             Side::Send => 0,
-            Side::Receive => 5,
+            Side::Receive => progress::RECEIVE_LOOK - progress::SEND_LOOK,
         }
     }
 
     /// The outcome that is due.
     fn due(self) -> u32 {
         match self {
-            Side::Send => due::SENT,
-            Side::Receive => due::GOT,
+            Side::Send => progress::DUE_SENT,
+            Side::Receive => progress::DUE_GOT,
         }
     }
 }
-
-/// The numbers of the stages of send.
-const PARK: u32 = 2;
-const COPY: u32 = 3;
-const CLEAR: u32 = 4;
-const WAKE: u32 = 5;
 
 impl Card<'_> {
     /// The step of a process at this stage, numbered as of send.
@@ -43,17 +38,17 @@ impl Card<'_> {
         let record = self.process(p);
         let (channel, partner) = (record[process::CHANNEL], record[process::PARTNER]);
         match stage {
-            PARK => self.park(core, p, side, channel),
-            COPY => self.copy(p, side, channel, partner),
-            CLEAR => {
+            progress::SEND_PARK => self.park(core, p, side, channel),
+            progress::SEND_COPY => self.copy(p, side, channel, partner),
+            progress::SEND_CLEAR => {
                 self.channel(channel)[channel::WORD] = 0;
-                self.go_on(p, side, WAKE)
+                self.go_on(p, side, progress::SEND_WAKE)
             }
-            WAKE if self.wake(core, partner) => self.report(p, side.due(), channel),
-            WAKE => Reply::refused(FAULT),
+            progress::SEND_WAKE if self.wake(core, partner) => self.report(p, side.due(), channel),
+            progress::SEND_WAKE => Reply::refused(FAULT),
             _ => match plain_name(self.channel(channel)[channel::WORD]) {
                 Some(partner) => self.meet(p, side, partner),
-                None => self.go_on(p, side, PARK),
+                None => self.go_on(p, side, progress::SEND_PARK),
             },
         }
     }
@@ -67,7 +62,7 @@ impl Card<'_> {
     /// The partner is there: next copy.
     fn meet(&mut self, p: u32, side: Side, partner: u32) -> Reply {
         self.process(p)[process::PARTNER] = partner;
-        self.go_on(p, side, COPY)
+        self.go_on(p, side, progress::SEND_COPY)
     }
 
     /// Swaps one's name into the word, and goes by what stood there.
@@ -87,13 +82,14 @@ impl Card<'_> {
         self.process(to)[process::DATA] = self.process(from)[process::DATA];
         let transfers = &mut self.channel(channel)[channel::TRANSFERS];
         *transfers = transfers.wrapping_add(1);
-        self.go_on(p, side, CLEAR)
+        self.go_on(p, side, progress::SEND_CLEAR)
     }
 
     /// The running process falls asleep, and the core has this task, of this process.
     pub fn sleep(&mut self, core: usize, p: u32, task: u32, of: u32) -> Reply {
         self.process(p)[process::PLACE] = place::ASLEEP;
-        self.cores[core][..3].copy_from_slice(&[0, task, of]);
+        self.cores[core][core::RUNNING] = 0;
+        self.next_task(core, task, of);
         Reply::new(SLEPT, p, 0, 0)
     }
 
@@ -111,9 +107,9 @@ impl Card<'_> {
         let record = self.process(p);
         record[process::PROGRESS..process::NEXT].fill(0);
         match due {
-            due::GO => Reply::new(GO, p, 0, 0),
-            due::SENT => Reply::new(SENT, p, channel, 0),
-            due::GOT => Reply::new(GOT, p, channel, record[process::DATA]),
+            progress::DUE_GO => Reply::new(GO, p, 0, 0),
+            progress::DUE_SENT => Reply::new(SENT, p, channel, 0),
+            progress::DUE_GOT => Reply::new(GOT, p, channel, record[process::DATA]),
             _ => Reply::new(CHOSE, p, channel, 0),
         }
     }

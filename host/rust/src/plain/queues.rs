@@ -1,14 +1,16 @@
 //! A core's next step, and its queues.
 
 use super::exchange::Side;
-use super::records::{core, place, process, task, Card};
+use super::layout::{core, place, process, progress, task};
+use super::records::Card;
 use super::Reply;
 use crate::model::number::*;
 
 impl Card<'_> {
     /// The next atomic step of a core.
     pub fn step(&mut self, core: usize) -> Reply {
-        let [running, task, of, ..] = self.cores[core];
+        let record = &self.cores[core];
+        let (running, task, of) = (record[core::RUNNING], record[core::TASK], record[core::TASK_OF]);
         if running != 0 {
             return self.stage_of(core, running);
         }
@@ -16,19 +18,27 @@ impl Card<'_> {
             task::NONE => self.schedule(core),
             task::TRIGGER => self.trigger(core, of),
             _ if self.wake(core, of) => {
-                self.cores[core][..3].fill(0);
+                self.next_task(core, task::NONE, 0);
                 Reply::moved()
             }
             _ => Reply::refused(FAULT),
         }
     }
 
+    /// The core has this task, of this process, next.
+    pub fn next_task(&mut self, core: usize, task: u32, of: u32) {
+        self.cores[core][core::TASK] = task;
+        self.cores[core][core::TASK_OF] = of;
+    }
+
     /// The step of the running process.
     fn stage_of(&mut self, core: usize, p: u32) -> Reply {
         match self.process(p)[process::PROGRESS] {
-            stage @ 1..=5 => self.exchange(core, p, Side::Send, stage),
-            stage @ 6..=10 => self.exchange(core, p, Side::Receive, stage - 5),
-            stage @ 11..=19 => self.choice(core, p, stage),
+            stage @ progress::SEND_LOOK..=progress::SEND_WAKE => self.exchange(core, p, Side::Send, stage),
+            stage @ progress::RECEIVE_LOOK..=progress::RECEIVE_WAKE => {
+                self.exchange(core, p, Side::Receive, stage - Side::Receive.offset())
+            }
+            stage @ progress::LOOK..=progress::FINISH => self.choice(core, p, stage),
             _ => Reply::refused(AWAITED),
         }
     }
@@ -75,7 +85,7 @@ impl Card<'_> {
         }
         record[core::SIZE] -= 1;
         record[core::DISPATCH] -= 1;
-        if due < 20 {
+        if due < progress::DUE_GO {
             return Reply::moved();
         }
         self.report(first, due, channel)
@@ -116,7 +126,7 @@ impl Card<'_> {
         let process = self.process(head);
         let (last, size) = (process[process::BATCH_LAST], process[process::BATCH_SIZE]);
         let next = process[process::NEXT_BATCH];
-        process[process::BATCH_LAST..].fill(0);
+        process[process::BATCH_LAST..process::UNUSED].fill(0);
         let record = &mut self.cores[core];
         record[core::FIRST_BATCH] = next;
         if next == 0 {

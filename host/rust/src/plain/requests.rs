@@ -1,6 +1,7 @@
 //! Set-up and the requests.
 
-use super::records::{channel, core, due, place, process, room, sizes_fit, Card};
+use super::layout::{channel, core, header, place, process, progress};
+use super::records::{room, sizes_fit, Card};
 use super::Reply;
 use crate::model::number::*;
 use crate::model::{Number, Wiring};
@@ -26,7 +27,9 @@ pub fn set_up(table: &mut [u32], wiring: &Wiring) -> Number {
         }
     }
     table.fill(0);
-    table[..3].copy_from_slice(&[cores, processes, channels]);
+    table[header::CORES] = cores;
+    table[header::PROCESSES] = processes;
+    table[header::CHANNELS] = channels;
     Card::of(table).first_words(cores, processes, pairs);
     BUILT
 }
@@ -38,8 +41,10 @@ impl Card<'_> {
             let follows = if p + cores <= processes { p + cores } else { 0 };
             let record = self.process(p);
             record[process::PLACE] = place::QUEUED;
-            record[process::PROGRESS] = due::GO;
-            record[process::BATCH_LAST..].copy_from_slice(&[p, 1, follows]);
+            record[process::PROGRESS] = progress::DUE_GO;
+            record[process::BATCH_LAST] = p;
+            record[process::BATCH_SIZE] = 1;
+            record[process::NEXT_BATCH] = follows;
             let record = &mut self.cores[(p as usize - 1) % cores as usize];
             if record[core::FIRST_BATCH] == 0 {
                 record[core::FIRST_BATCH] = p;
@@ -47,14 +52,16 @@ impl Card<'_> {
             record[core::LAST_BATCH] = p;
         }
         for (c, pair) in (1..).zip(pairs.chunks_exact(2)) {
-            self.channel(c)[..2].copy_from_slice(pair);
+            let record = self.channel(c);
+            record[channel::WRITER] = pair[0];
+            record[channel::READER] = pair[1];
         }
     }
 
     /// The running process with nothing in hand.
     fn requester(&mut self, core: usize) -> Result<u32, Number> {
         let p = self.cores[core][core::RUNNING];
-        if p == 0 || self.process(p)[process::PROGRESS] != 0 {
+        if p == 0 || self.process(p)[process::PROGRESS] != progress::NOTHING {
             return Err(BUSY);
         }
         Ok(p)
@@ -83,7 +90,7 @@ impl Card<'_> {
         match self.requester_at(core, channel::WRITER, channel) {
             Ok(p) => {
                 self.process(p)[process::DATA] = value;
-                self.begin(p, 1, channel)
+                self.begin(p, progress::SEND_LOOK, channel)
             }
             Err(refusal) => Reply::refused(refusal),
         }
@@ -92,7 +99,7 @@ impl Card<'_> {
     /// The running process receives.
     pub fn receive(&mut self, core: usize, channel: u32) -> Reply {
         match self.requester_at(core, channel::READER, channel) {
-            Ok(p) => self.begin(p, 6, channel),
+            Ok(p) => self.begin(p, progress::RECEIVE_LOOK, channel),
             Err(refusal) => Reply::refused(refusal),
         }
     }
@@ -127,7 +134,11 @@ impl Card<'_> {
             Err(refusal) => return Reply::refused(refusal),
         };
         let record = self.process(p);
-        record[process::ENABLING..=process::PROGRESS].copy_from_slice(&[1, 1, 0, 1, 11]);
+        record[process::ENABLING] = 1;
+        record[process::NOT_READY] = 1;
+        record[process::WAITING] = 0;
+        record[process::COUNT] = 1;
+        record[process::PROGRESS] = progress::LOOK;
         record[process::GUARD_COUNT] = guards.len() as u32;
         record[process::INDEX] = 1;
         record[process::GUARDS..][..guards.len()].copy_from_slice(guards);
@@ -139,7 +150,7 @@ impl Card<'_> {
         let Ok(p) = self.requester(core) else {
             return Reply::refused(BUSY);
         };
-        self.process(p)[process::PROGRESS] = due::GO;
+        self.process(p)[process::PROGRESS] = progress::DUE_GO;
         self.join(core, p);
         self.cores[core][core::RUNNING] = 0;
         Reply::new(TAKEN, p, 0, 0)

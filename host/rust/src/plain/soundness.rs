@@ -1,6 +1,8 @@
 //! The soundness check: one pass over the cores and their queues, the processes and the channels, left at the first flaw.
 
-use super::records::{channel, core, place, process, task, Channel, Core, Process, Records};
+use super::layout::progress::*;
+use super::layout::{channel, core, place, process, task, Channel, Core, Process};
+use super::records::Records;
 
 /// Where the walk over the cores met a process.
 #[derive(Clone, Copy, PartialEq, Eq)]
@@ -98,13 +100,14 @@ impl Records<'_> {
 
     /// A process's flags and count, its place against what was met, and its progress.
     fn process_fits(&self, p: u32, record: &Process, met: Met) -> bool {
-        let links = &record[process::NEXT..];
+        let progress = record[process::PROGRESS];
+        let links = &record[process::NEXT..process::UNUSED];
         let place_fits = match (record[process::PLACE], met) {
-            (place::RUNNING, Met::Running) => record[process::PROGRESS] <= 19 && zeros(links),
-            (place::QUEUED, Met::Queued) => record[process::PROGRESS] != 0 && zeros(&links[1..]),
-            (place::QUEUED, Met::Head) => record[process::PROGRESS] != 0,
-            (place::ASLEEP, Met::Nowhere) => record[process::PROGRESS] != 0 && zeros(links),
-            (place::ENDED, Met::Nowhere) => record[process::PROGRESS] == 0 && zeros(links),
+            (place::RUNNING, Met::Running) => progress < DUE_GO && zeros(links),
+            (place::QUEUED, Met::Queued) => progress != NOTHING && zeros(&record[process::BATCH_LAST..process::UNUSED]),
+            (place::QUEUED, Met::Head) => progress != NOTHING,
+            (place::ASLEEP, Met::Nowhere) => progress != NOTHING && zeros(links),
+            (place::ENDED, Met::Nowhere) => progress == NOTHING && zeros(links),
             _ => false,
         };
         place_fits
@@ -112,20 +115,22 @@ impl Records<'_> {
             && record[process::NOT_READY] <= 1
             && record[process::WAITING] <= 1
             && record[process::COUNT] <= 9
+            && zeros(&record[process::UNUSED..])
             && self.progress_fits(p, record)
     }
 
     /// The words of a process's progress: those that mean something, and zeros.
     fn progress_fits(&self, p: u32, record: &Process) -> bool {
-        let words = &record[process::CHANNEL..process::NEXT];
-        let (channel, partner) = (words[0], words[1]);
+        let unused = |first: usize| zeros(&record[first..process::NEXT]);
+        let is_end = |end: usize| self.is_end(p, end, record[process::CHANNEL]);
+        let has_partner = || self.names_process(record[process::PARTNER]);
         match record[process::PROGRESS] {
-            0 | 20 => zeros(words),
-            1 | 2 | 21 => self.is_end(p, channel::WRITER, channel) && zeros(&words[1..]),
-            6 | 7 | 22 | 23 => self.is_end(p, channel::READER, channel) && zeros(&words[1..]),
-            3..=5 => self.is_end(p, channel::WRITER, channel) && self.names_process(partner) && zeros(&words[2..]),
-            8..=10 => self.is_end(p, channel::READER, channel) && self.names_process(partner) && zeros(&words[2..]),
-            11..=19 => zeros(&words[..2]) && self.choice_fits(p, record),
+            NOTHING | DUE_GO => unused(process::CHANNEL),
+            SEND_LOOK | SEND_PARK | DUE_SENT => is_end(channel::WRITER) && unused(process::PARTNER),
+            RECEIVE_LOOK | RECEIVE_PARK | DUE_GOT | DUE_CHOSE => is_end(channel::READER) && unused(process::PARTNER),
+            SEND_COPY..=SEND_WAKE => is_end(channel::WRITER) && has_partner() && unused(process::GUARD_COUNT),
+            RECEIVE_COPY..=RECEIVE_WAKE => is_end(channel::READER) && has_partner() && unused(process::GUARD_COUNT),
+            LOOK..=FINISH => zeros(&record[process::CHANNEL..process::GUARD_COUNT]) && self.choice_fits(p, record),
             _ => false,
         }
     }
@@ -143,8 +148,8 @@ impl Records<'_> {
             return false;
         }
         let (guards, unused) = record[process::GUARDS..process::NEXT].split_at(count as usize);
-        let index_fits = if matches!(number, 16 | 19) { index == 0 } else { (1..=count).contains(&index) };
-        let ready_fits = if number >= 17 { ready <= count } else { ready == 0 };
+        let index_fits = if matches!(number, WAIT | FINISH) { index == 0 } else { (1..=count).contains(&index) };
+        let ready_fits = if number >= DISABLE { ready <= count } else { ready == 0 };
         index_fits
             && ready_fits
             && zeros(unused)
@@ -154,7 +159,7 @@ impl Records<'_> {
 
     /// A channel's ends are processes and differ, and its word names a process or nobody.
     fn channel_fits(&self, record: &Channel) -> bool {
-        let [writer, reader, word, _] = *record;
+        let (writer, reader, word) = (record[channel::WRITER], record[channel::READER], record[channel::WORD]);
         writer != reader
             && self.names_process(writer)
             && self.names_process(reader)

@@ -98,7 +98,7 @@ pub fn perform(thing: Thing, who: Who, script: &Script) {
 
 /// Makes the calls and gives how many they were.
 fn perform_by(subject: &mut impl Subject, thing: Thing, script: &Script) -> usize {
-    let mut lent = Lent { table: script.start.clone(), answer: [0; 3] };
+    let mut lent = Lent::of(&script.start);
     if let Thing::Check = thing {
         for table in &script.tables {
             lent.table.copy_from_slice(table);

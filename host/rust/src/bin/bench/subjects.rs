@@ -1,6 +1,6 @@
 //! What is timed: the library, the plain version and the model, each on the same calls.
 
-use fontarisca_host::model::{self, Machine, Model, Number, State};
+use fontarisca_host::model::{self, Machine, Model, Number, State, ANSWER_WORDS};
 use fontarisca_host::plain::{self, Card};
 
 use crate::ring::{action, Call};
@@ -8,7 +8,14 @@ use crate::ring::{action, Call};
 /// The lent table and answer.
 pub struct Lent {
     pub table: Vec<u32>,
-    pub answer: [u32; 3],
+    pub answer: [u32; ANSWER_WORDS],
+}
+
+impl Lent {
+    /// This table, and an answer of zeros.
+    pub fn of(table: &[u32]) -> Lent {
+        Lent { table: table.to_vec(), answer: [0; ANSWER_WORDS] }
+    }
 }
 
 /// One whose calls are timed. Its functions are called as the library's are: none is inlined into the loop that times it.
@@ -63,9 +70,9 @@ impl Subject for Library {
         // SAFETY: the pointers are of slices with these lengths, which outlive the call.
         unsafe {
             match call {
-                Call::Step { core } => fontarisca_step(t, t_len, a, 3, core),
-                Call::Send { core, channel, value } => fontarisca_send(t, t_len, a, 3, core, channel, value),
-                Call::Receive { core, channel } => fontarisca_receive(t, t_len, a, 3, core, channel),
+                Call::Step { core } => fontarisca_step(t, t_len, a, ANSWER_WORDS, core),
+                Call::Send { core, channel, value } => fontarisca_send(t, t_len, a, ANSWER_WORDS, core, channel, value),
+                Call::Receive { core, channel } => fontarisca_receive(t, t_len, a, ANSWER_WORDS, core, channel),
             }
         }
     }
@@ -79,9 +86,9 @@ impl Subject for Library {
         // SAFETY: as above; the table is sound and the core exists.
         unsafe {
             match call {
-                Call::Step { core } => unchecked_step(t, t_len, a, 3, core),
-                Call::Send { core, channel, value } => unchecked_send(t, t_len, a, 3, core, channel, value),
-                Call::Receive { core, channel } => unchecked_receive(t, t_len, a, 3, core, channel),
+                Call::Step { core } => unchecked_step(t, t_len, a, ANSWER_WORDS, core),
+                Call::Send { core, channel, value } => unchecked_send(t, t_len, a, ANSWER_WORDS, core, channel, value),
+                Call::Receive { core, channel } => unchecked_receive(t, t_len, a, ANSWER_WORDS, core, channel),
             }
         }
     }

@@ -60,7 +60,7 @@ impl Best {
 
     /// Times one subject once; what it leaves must be what the script says.
     fn round(&mut self, script: &Script, subject: &mut impl Subject) {
-        let mut lent = Lent { table: script.start.clone(), answer: [0; 3] };
+        let mut lent = Lent::of(&script.start);
         subject.begin(&mut lent, &script.start);
         for (calls, best) in script.calls.chunks(STRETCH).zip(&mut self.calls) {
             keep_best(
