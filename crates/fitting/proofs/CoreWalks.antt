@@ -9,7 +9,7 @@ use lib.ListN.{set}
 use borrow.Author.Tests.{eqb-true, eqb-false}
 use Rattle.rules.specs.Lists.{if_then_else_, total, tabulate, times, first}
 use Rattle.rules.specs.State.{Core, queues-of}
-use Rattle.rules.specs.Layout.{core-at}
+use Rattle.rules.specs.Layout.{core-at, core-runs, core-task, core-task-process, core-first, core-last, core-first-head, core-last-head}
 use Rattle.rules.specs.Packing.{heads, K-of, N-of, word-of-core, chain, work-numbered, view-core}
 use Rattle.rules.specs.Soundness.{runs-it}
 use Rattle.rules.proofs.Sums.{head-stands}
@@ -118,13 +118,13 @@ each-from C k n here rest j l b = cases (eqb k j) refl
 module _ (t : List ℕ) where
   -- the heads of a core's batches
   abbrev pub heads-of : ℕ → List ℕ
-  heads-of k = chain (batch-behind t) (N-of t) (word-of-core t k 8)
+  heads-of k = chain (batch-behind t) (N-of t) (word-of-core t k core-first-head)
 
   -- what the check asks of a core by itself
   pub record CoreFits (k : ℕ) : Type 0 where
     pub flat : T (core-fits t (N-of t) k)
-    pub active : Queue (next-of t) (word-of-core t k 4) (word t (core-at k 4 + 1)) (word-of-core t k 3) 0 0 (view-core t k .active)
-    pub batches : Heads t (word-of-core t k 9) (word-of-core t k 8) 0 (heads-of k)
+    pub active : Queue (next-of t) (word-of-core t k core-last) (word t (core-at k core-last + 1)) (word-of-core t k core-first) 0 0 (view-core t k .active)
+    pub batches : Heads t (word-of-core t k core-last-head) (word-of-core t k core-first-head) 0 (heads-of k)
 
   -- the heads of the batches that are read out of the table
   pub heads-are : 1 ≤ N-of t → (k : ℕ) → heads (view-core t k .run-queue) ≡ heads-of k
@@ -154,9 +154,9 @@ module _ (t : List ℕ) where
   core-exact some k c met agrees =
       exact-if P Q (core-fits t N k) walk (λ h. h .0 .flat)
       (λ f. exact-then P Q (Apart N c running) (Met N c₁) (meet-running t N k met) after-running
-      (running-exact N c met agrees (word-of-core t k 0) (word-of-core t k 1) (word-of-core t k 2)) (λ h. apart-first N c running c₁ queues (h .1))
-      (λ m₁ a₁ g₁. exact-then P Q P₂ Q₂ (chain-walk t K N (core-at k 4) N m₁ (word-of-core t k 3) 0 0) after-active
-      (chain-exact t (core-at k 4) N m₁ c₁ (word-of-core t k 3) 0 0 g₁)
+      (running-exact N c met agrees (word-of-core t k core-runs) (word-of-core t k core-task) (word-of-core t k core-task-process)) (λ h. apart-first N c running c₁ queues (h .1))
+      (λ m₁ a₁ g₁. exact-then P Q P₂ Q₂ (chain-walk t K N (core-at k core-last) N m₁ (word-of-core t k core-first) 0 0) after-active
+      (chain-exact t (core-at k core-last) N m₁ c₁ (word-of-core t k core-first) 0 0 g₁)
       (λ h. (h .0 .active, apart-first N c₁ active c₂ batches (apart-second N c running c₁ queues grown₁ (h .1))))
       (λ m₂ h₂ g₂. exact-as P Q P₃ Q₃ (after-active m₂)
       (λ h. (
@@ -164,7 +164,7 @@ module _ (t : List ℕ) where
         apart-both N c running c₁ queues grown₁ a₁ (apart-both N c₁ active c₂ batches grown₂ (h₂ .1) (h .1)),
       ))
       (λ h. (h .0 .batches, apart-second N c₁ active c₂ batches grown₂ (apart-second N c running c₁ queues grown₁ (h .1))))
-      (λ m. met-as N _ _ m (λ q. omega (arith, ap (times q) (heads-are some k)))) (batch-exact t k N m₂ c₂ (word-of-core t k 8) 0 g₂))))
+      (λ m. met-as N _ _ m (λ q. omega (arith, ap (times q) (heads-are some k)))) (batch-exact t k N m₂ c₂ (word-of-core t k core-first-head) 0 g₂))))
     where
       K : ℕ
       K = K-of t
@@ -200,24 +200,24 @@ module _ (t : List ℕ) where
 
       -- what the walk over the active queue finds, and what is met then
       P₂ : Type 0
-      P₂ = QueueFrom t (core-at k 4) N c₁ (word-of-core t k 3) 0 0
+      P₂ = QueueFrom t (core-at k core-last) N c₁ (word-of-core t k core-first) 0 0
 
       Q₂ : List ℕ → Type 0
-      Q₂ = MetFrom t (core-at k 4) N c₁ (word-of-core t k 3)
+      Q₂ = MetFrom t (core-at k core-last) N c₁ (word-of-core t k core-first)
 
       -- what the walk over the batches finds, and what is met then
       P₃ : Type 0
-      P₃ = HeadsFrom t k N c₂ (word-of-core t k 8) 0
+      P₃ = HeadsFrom t k N c₂ (word-of-core t k core-first-head) 0
 
       Q₃ : List ℕ → Type 0
-      Q₃ = MetHeads t k N c₂ (word-of-core t k 8)
+      Q₃ = MetHeads t k N c₂ (word-of-core t k core-first-head)
 
       -- the walks that are left after the active queue, after the running process, and at first
       after-active : List ℕ → Walk
-      after-active m = batch-walk t K N k N m (word-of-core t k 8) 0
+      after-active m = batch-walk t K N k N m (word-of-core t k core-first-head) 0
 
       after-running : List ℕ → Walk
-      after-running m = and-then (chain-walk t K N (core-at k 4) N m (word-of-core t k 3) 0 0) after-active
+      after-running m = and-then (chain-walk t K N (core-at k core-last) N m (word-of-core t k core-first) 0 0) after-active
 
       walk : Walk
       walk = and-then (meet-running t N k met) after-running

@@ -8,6 +8,7 @@ use lib.Dec.{T, eqb, leb, eqb→eq}
 use lib.ListN.{length, getD, set, length-set}
 use lib.Seq.{getD-set-same, getD-set-other}
 use borrow.Author.Tests.{eqb-true, eqb-false, leb-true, leb-false, eq-eqb, ne-eqb}
+use Rattle.rules.specs.Layout.{room}
 use Rattle.rules.specs.Lists.{if_then_else_, within, bit}
 use Rattle.rules.proofs.Tests.{both, together, within-means}
 use Rattle.fitting.proofs.Tests.{equal-holds, within-holds}

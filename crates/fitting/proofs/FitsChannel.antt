@@ -7,6 +7,7 @@ use native.Mathlib.Omega.{arith}
 use lib.Dec.{eqb}
 use lib.ListN.{getD}
 use borrow.Author.Tests.{eqb-true, eqb-false, lt-ltb}
+use Rattle.rules.specs.Layout.{channel-stride, channel-holder, channel-transfers}
 use Rattle.rules.specs.Lists.{if_then_else_, within}
 use Rattle.rules.specs.State.{nobody, plain, choosing, Wiring}
 use Rattle.rules.specs.Packing.{word-number, word-numbered, K-of, N-of, word-of-channel, channel-words, view-channel}
@@ -25,11 +26,11 @@ word-number-back n = cases (eqb n 0) (eqb (n % 2) 0) refl refl
     cases false false e f = omega (arith, eqb-false (n % 2) 0 f)
 
 -- The words of a channel that is read out of a table are those of the table.
-pub channel-words-back : (t : List ℕ) (c f : ℕ) → f < 4 → getD (channel-words (view-channel t c)) f 0 ≡ word-of-channel t c f
+pub channel-words-back : (t : List ℕ) (c f : ℕ) → f < channel-stride → getD (channel-words (view-channel t c)) f 0 ≡ word-of-channel t c f
 unfolding channel-words view-channel
 channel-words-back t c zero b = refl
 channel-words-back t c (suc zero) b = refl
-channel-words-back t c (suc (suc zero)) b = word-number-back (word-of-channel t c 2)
+channel-words-back t c (suc (suc zero)) b = word-number-back (word-of-channel t c channel-holder)
 channel-words-back t c (suc (suc (suc zero))) b = refl
 channel-words-back t c (suc (suc (suc (suc f)))) b = absurd (omega arith)
 
@@ -44,7 +45,7 @@ valid-word-is w n = cases (eqb n 0) (eqb (n % 2) 0)
     cases false false = refl
 
 -- A channel fits exactly where it is valid.
-pub channel-fits-is : (t : List ℕ) (w : Wiring) → w .N ≡ N-of t → (c : ℕ) → word-of-channel t c 3 < 4294967296
+pub channel-fits-is : (t : List ℕ) (w : Wiring) → w .N ≡ N-of t → (c : ℕ) → word-of-channel t c channel-transfers < 4294967296
     → valid-channel w (view-channel t c) ≡ channel-fits t (K-of t) (N-of t) c
 unfolding valid-channel view-channel
-channel-fits-is t w e c b = rw (lt-ltb (word-of-channel t c 3) 4294967296 b, and-true, valid-word-is, e)
+channel-fits-is t w e c b = rw (lt-ltb (word-of-channel t c channel-transfers) 4294967296 b, and-true, valid-word-is, e)

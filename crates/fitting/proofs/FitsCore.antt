@@ -1,5 +1,5 @@
 -- The words of a core that belong to no queue fit exactly where they are those of a valid core.
-use Prim.Native.Nat.{ℕ, zero, suc, _+_, _≤_, _<_}
+use Prim.Native.Nat.{ℕ, zero, suc, _+_, _-_, _≤_, _<_}
 use mathlib.Core.Path.{_≡_, refl}
 use mathlib.Core.Bool.{Bool, _&&_}
 use mathlib.Core.List.{List, [], _∷_}
@@ -7,16 +7,12 @@ use native.Mathlib.Omega.{arith}
 use lib.Dec.{T, eqb, leb, eqb→eq, leb→le, le→leb, eqb·suc-zero}
 use Rattle.rules.specs.Lists.{if_then_else_, within, bit}
 use Rattle.rules.specs.State.{Wiring}
-use Rattle.rules.specs.Layout.{core-at}
+use Rattle.rules.specs.Layout.{core-stride, core-at, core-runs, core-task, core-task-process, core-dispatch, core-mark, core-spare, task-wake}
 use Rattle.rules.specs.Packing.{work-words, word-of-core, work-numbered}
 use Rattle.rules.specs.Soundness.{is-process, valid-work}
 use Rattle.rules.proofs.Tests.{both, three, four}
 use Rattle.fitting.proofs.Tests.{equal-holds, within-holds, all-three, all-four, zeros-mean, zeros-hold, bit-means, bit-holds}
-use Rattle.fitting.specs.Twin.{word, zeros, task-fits, core-fits}
-
--- the running process, the task and its process fit
-abbrev work-fits : ℕ → ℕ → ℕ → ℕ → Bool
-work-fits N p task q = if eqb p 0 then task-fits N task q else (leb p N && eqb task 0 && eqb q 0)
+use Rattle.fitting.specs.Twin.{word, zeros, work-fits, core-fits}
 
 -- the work that is read out of three words is valid, and these are its words
 abbrev pub GoodWork : Wiring → ℕ → ℕ → ℕ → Type 0
@@ -29,8 +25,8 @@ module _ (w : Wiring) where
   work-means zero (suc zero) q h = (h, refl)
   work-means zero (suc (suc zero)) q h = (h, refl)
   work-means zero (suc (suc (suc task))) q h =
-      let g : T (leb (suc (suc (suc task))) 2 && within 1 (w .N) q) = rw eqb·suc-zero at h in
-      absurd (omega (arith, leb→le (suc (suc (suc task))) 2 (both (leb (suc (suc (suc task))) 2) (within 1 (w .N) q) g .0)))
+      let g : T (leb (suc (suc (suc task))) task-wake && within 1 (w .N) q) = rw eqb·suc-zero at h in
+      absurd (omega (arith, leb→le (suc (suc (suc task))) task-wake (both (leb (suc (suc (suc task))) task-wake) (within 1 (w .N) q) g .0)))
   work-means (suc p) task q h =
       let g : T (leb (suc p) (w .N) && eqb task 0 && eqb q 0) = rw eqb·suc-zero at h in
       let r = three (leb (suc p) (w .N)) (eqb task 0) (eqb q 0) g in
@@ -53,28 +49,37 @@ module _ (w : Wiring) where
 
 -- the words of a core that belong to no queue are those of a valid core
 pub record FlatCore (w : Wiring) (t : List ℕ) (k : ℕ) : Type 0 where
-  pub work : GoodWork w (word-of-core t k 0) (word-of-core t k 1) (word-of-core t k 2)
-  pub dispatch : word-of-core t k 6 ≤ 32
-  pub mark : bit (eqb (word-of-core t k 7) 1) ≡ word-of-core t k 7
-  pub unused : (f : ℕ) → f < 6 → word t (core-at k 10 + f) ≡ 0
+  pub work : GoodWork w (word-of-core t k core-runs) (word-of-core t k core-task) (word-of-core t k core-task-process)
+  pub dispatch : word-of-core t k core-dispatch ≤ 32
+  pub mark : bit (eqb (word-of-core t k core-mark) 1) ≡ word-of-core t k core-mark
+  pub unused : (f : ℕ) → f < core-stride - core-spare → word t (core-at k core-spare + f) ≡ 0
 
 module _ (w : Wiring) (t : List ℕ) (k : ℕ) where
+  -- the words of the core
+  abbrev own : ℕ → ℕ
+  own = word-of-core t k
+
+  -- the tests of its work, its dispatch count, its mark and its unused words
+  abbrev work-test : Bool
+  work-test = work-fits (w .N) (own core-runs) (own core-task) (own core-task-process)
+
+  abbrev unused-test : Bool
+  unused-test = zeros t (core-at k core-spare) (core-stride - core-spare)
+
   -- What the test of these words says,
   pub core-fits-means : T (core-fits t (w .N) k) → FlatCore w t k
   core-fits-means h =
-      let r = four (work-fits (w .N) (word-of-core t k 0) (word-of-core t k 1) (word-of-core t k 2)) (leb (word-of-core t k 6) 32) (leb (word-of-core t k 7) 1)
-      (zeros t (core-at k 10) 6) h in
+      let r = four work-test (leb (own core-dispatch) 32) (leb (own core-mark) 1) unused-test h in
       record {
-        work = work-means w (word-of-core t k 0) (word-of-core t k 1) (word-of-core t k 2) (r .0);
-        dispatch = leb→le (word-of-core t k 6) 32 (r .1);
-        mark = bit-means (word-of-core t k 7) (r .2);
-        unused = zeros-mean t (core-at k 10) 6 (r .3);
+        work = work-means w (own core-runs) (own core-task) (own core-task-process) (r .0);
+        dispatch = leb→le (own core-dispatch) 32 (r .1);
+        mark = bit-means (own core-mark) (r .2);
+        unused = zeros-mean t (core-at k core-spare) (core-stride - core-spare) (r .3);
       }
 
   -- and what says as much.
   pub means-core-fits : FlatCore w t k → T (core-fits t (w .N) k)
   means-core-fits h =
-      all-four (work-fits (w .N) (word-of-core t k 0) (word-of-core t k 1) (word-of-core t k 2)) (leb (word-of-core t k 6) 32) (leb (word-of-core t k 7) 1)
-      (zeros t (core-at k 10) 6)
-      (means-work w (word-of-core t k 0) (word-of-core t k 1) (word-of-core t k 2) (h .work)) (le→leb (word-of-core t k 6) 32 (h .dispatch))
-      (bit-holds (eqb (word-of-core t k 7) 1) (word-of-core t k 7) (h .mark)) (zeros-hold t (core-at k 10) 6 (h .unused))
+      all-four work-test (leb (own core-dispatch) 32) (leb (own core-mark) 1) unused-test
+      (means-work w (own core-runs) (own core-task) (own core-task-process) (h .work)) (le→leb (own core-dispatch) 32 (h .dispatch))
+      (bit-holds (eqb (own core-mark) 1) (own core-mark) (h .mark)) (zeros-hold t (core-at k core-spare) (core-stride - core-spare) (h .unused))

@@ -1,14 +1,15 @@
 -- A table that fits holds the words of the state that is read out of it.
-use Prim.Native.Nat.{ℕ, zero, suc, _+_, _≤_, _<_}
+use Prim.Native.Nat.{ℕ, zero, suc, _+_, _-_, _≤_, _<_}
 use mathlib.Core.Path.{_≡_, refl, sym, ap, _∙_, subst}
 use mathlib.Core.Bool.{Bool, true, false}
-use mathlib.Core.List.{List, [], _++_}
+use mathlib.Core.List.{List, [], _∷_, _++_}
 use native.Mathlib.Omega.{arith}
 use native.Mathlib.Nat.{zero-add}
 use lib.Dec.{leb, lit<}
 use lib.ListN.{length, getD}
 use borrow.Author.Tests.{leb-true, leb-false}
-use Rattle.rules.specs.Lists.{total, tabulate, times, first, last, follows}
+use Rattle.rules.specs.Layout.{header-size, core-stride, process-stride, header-spare, core-first, core-last, core-size, core-first-head, core-last-head, core-spare, process-progress, process-next, process-last, process-size, process-next-head, process-spare, progress-size, links-size}
+use Rattle.rules.specs.Lists.{total, tabulate, bit, times, first, last, follows}
 use Rattle.rules.specs.State.{Core, Process, Channel, queues-of, State}
 use Rattle.rules.specs.Items.{core-of, process-of, no-core}
 use Rattle.rules.specs.Packing.{
@@ -38,11 +39,12 @@ use Rattle.rules.proofs.Packing.Reflect.{Valid, valid-means}
 use Rattle.rules.proofs.Sums.{positive-term}
 use Rattle.rules.proofs.Packing.Chains.{next-follows, batch-follows}
 use Rattle.rules.proofs.Packing.Reading.{state-words, link-words, queue-words}
+use Rattle.fitting.proofs.Tests.{zero-block}
 use Rattle.fitting.proofs.Walks.{next-of, batch-of, batch-behind}
 use Rattle.fitting.proofs.CoreWalks.{chain-first, heads-of, heads-are}
 use Rattle.fitting.proofs.Views.{cores-of-view, processes-of-view, channels-of-view, core-of-view, process-of-view, channel-of-view}
 use Rattle.fitting.proofs.FitsChannel.{channel-words-back}
-use Rattle.fitting.proofs.Fitting.{header-processes, Fitting}
+use Rattle.fitting.proofs.Fitting.{processes-limits, Fitting}
 use Rattle.fitting.proofs.Links.{
   linked-follows,
   last-from-zero,
@@ -76,7 +78,7 @@ module _ (t : List ℕ) (words : (i : ℕ) → getD t i 0 < 4294967296) (h : Fit
 
   -- there is a process
   some : 1 ≤ N-of t
-  some = header-processes t (h .header) .0
+  some = processes-limits t (h .header) .0
 
   -- the state is valid
   v : Valid s
@@ -89,12 +91,12 @@ module _ (t : List ℕ) (words : (i : ℕ) → getD t i 0 < 4294967296) (h : Fit
   -- what follows p in a queue of this core is p's link
   abbrev LinkFollows : ℕ → Core → Type 0
   LinkFollows p x =
-      (i : ℕ) → i < length (queues-of x) → 1 ≤ times p (getD (queues-of x) i []) → follows p (getD (queues-of x) i []) ≡ word-of-process t p 20
+      (i : ℕ) → i < length (queues-of x) → 1 ≤ times p (getD (queues-of x) i []) → follows p (getD (queues-of x) i []) ≡ word-of-process t p process-next
 
   -- it is, on each core that fits
   queue-follows : (k : ℕ) → k < K-of t → (p : ℕ) → LinkFollows p (view-core t k)
   queue-follows k b p zero c m =
-      linked-follows (next-of t) (word-of-core t k 3) (view-core t k .active) (h .cores k b .active .linked) p m
+      linked-follows (next-of t) (word-of-core t k core-first) (view-core t k .active) (h .cores k b .active .linked) p m
   queue-follows k b p (suc i) c m =
       let l = getD (view-core t k .run-queue) i [] in
       let e : l ≡ batch-of t (first l) = batch-is t some k i (omega arith) in
@@ -103,12 +105,12 @@ module _ (t : List ℕ) (words : (i : ℕ) → getD t i 0 < 4294967296) (h : Fit
       ∙ linked-follows (next-of t) (first l) (batch-of t (first l)) (x .queue .linked) p (omega (arith, ap (times p) e))
 
   module _ (p : ℕ) (l : 1 ≤ p) (b : p ≤ N-of t) where
-    -- the word 20: who follows
-    next-is : next-link s p ≡ word-of-process t p 20
+    -- who follows it
+    next-is : next-link s p ≡ word-of-process t p process-next
     unfolding in-queues
     next-is = cases (leb 1 (in-queues s p)) refl
       where
-        found : 1 ≤ in-queues s p → next-link s p ≡ word-of-process t p 20
+        found : 1 ≤ in-queues s p → next-link s p ≡ word-of-process t p process-next
         found m =
             let c = positive-term (λ (c : Core). total (times p) (queues-of c)) (s .cores) no-core m in
             let k = c .0 in
@@ -117,16 +119,16 @@ module _ (t : List ℕ) (words : (i : ℕ) → getD t i 0 < 4294967296) (h : Fit
             next-follows s v k (c .1) (q .0) (q .1) p (q .2)
             ∙ subst (LinkFollows p) (sym (core-of-view t k d)) (queue-follows k d p) (q .0) (q .1) (q .2)
 
-        cases : (y : Bool) → leb 1 (in-queues s p) ≡ y → next-link s p ≡ word-of-process t p 20
+        cases : (y : Bool) → leb 1 (in-queues s p) ≡ y → next-link s p ≡ word-of-process t p process-next
         cases true e = found (leb-true 1 (in-queues s p) e)
         cases false e =
             let none : in-queues s p ≡ 0 = omega (arith, leb-false 1 (in-queues s p) e) in
             no-next s p none ∙ sym (stands-linked t words h p l b .1 .next none)
 
-    -- the words 21 to 23: what a batch's head keeps
+    -- what a batch's head keeps
     abbrev HeadWords : Type 0
     HeadWords =
-        (head-link last s p ≡ word-of-process t p 21) × (head-link length s p ≡ word-of-process t p 22) × (batch-link s p ≡ word-of-process t p 23)
+        (head-link last s p ≡ word-of-process t p process-last) × (head-link length s p ≡ word-of-process t p process-size) × (batch-link s p ≡ word-of-process t p process-next-head)
 
     -- of a process that heads a batch
     heads-found : 1 ≤ heads-in s p → HeadWords
@@ -150,7 +152,7 @@ module _ (t : List ℕ) (words : (i : ℕ) → getD t i 0 < 4294967296) (h : Fit
           keeps last ∙ sym (last-from-zero (batch-of t p)) ∙ sym (queue .last-is),
           keeps length ∙ sym (zero-add (length (batch-of t p))) ∙ sym (queue .size-is) ∙ ap (word t) (omega arith),
           batch-follows s v k (c .1) p (c .2) ∙ ap (follows p) all-heads
-              ∙ linked-follows (batch-behind t) (word-of-core t k 8) (heads-of t k) (x .linked) p stands,
+              ∙ linked-follows (batch-behind t) (word-of-core t k core-first-head) (heads-of t k) (x .linked) p stands,
         )
 
     -- of one that heads none
@@ -163,28 +165,29 @@ module _ (t : List ℕ) (words : (i : ℕ) → getD t i 0 < 4294967296) (h : Fit
         )
 
     -- the link words of a process
-    links-are : link-words s p ≡ tabulate (word-of-process t p) 20 4
+    links-are : link-words s p ≡ tabulate (word-of-process t p) process-next links-size
     links-are = cases (leb 1 (heads-in s p)) refl
       where
-        all-of : HeadWords → link-words s p ≡ tabulate (word-of-process t p) 20 4
+        all-of : HeadWords → link-words s p ≡ tabulate (word-of-process t p) process-next links-size
         all-of x = cc (next-is, x .0, x .1, x .2)
 
-        cases : (y : Bool) → leb 1 (heads-in s p) ≡ y → link-words s p ≡ tabulate (word-of-process t p) 20 4
+        cases : (y : Bool) → leb 1 (heads-in s p) ≡ y → link-words s p ≡ tabulate (word-of-process t p) process-next links-size
         cases true e = all-of (heads-found (leb-true 1 (heads-in s p) e))
         cases false e = all-of (heads-none (omega (arith, leb-false 1 (heads-in s p) e)))
 
     -- the words of a process
-    process-is : process-words s p ≡ tabulate (word-of-process t p) 0 24
+    process-is : process-words s p ≡ tabulate (word-of-process t p) 0 process-stride
     unfolding process-words
     process-is =
         let r : process-of s p ≡ view-process t p = process-of-view t p l b in
-        let state : state-words (process-of s p) ≡ tabulate (word-of-process t p) 0 6 = ap state-words r ∙ h .processes p l b .state in
-        let progress : progress-words (process-of s p .progress) ≡ tabulate (word-of-process t p) 6 14 =
+        let state : state-words (process-of s p) ≡ tabulate (word-of-process t p) 0 process-progress = ap state-words r ∙ h .processes p l b .state in
+        let progress : progress-words (process-of s p .progress) ≡ tabulate (word-of-process t p) process-progress progress-size =
         ap (λ (x : Process). progress-words (x .progress)) r ∙ h .processes p l b .words in
-        λ i. state i ++ (progress i ++ links-are i)
+        let unused = zero-block (word-of-process t p) process-spare (process-stride - process-spare) (λ f c. ap (word t) (omega arith) ∙ h .processes p l b .unused f c) in
+        λ i. state i ++ (progress i ++ (links-are i ++ unused i))
 
   -- the words of a core
-  core-is : (k : ℕ) → k < K-of t → core-words (view-core t k) ≡ tabulate (word-of-core t k) 0 16
+  core-is : (k : ℕ) → k < K-of t → core-words (view-core t k) ≡ tabulate (word-of-core t k) 0 core-stride
   unfolding core-words view-core
   core-is k b =
       let w = word-of-core t k in
@@ -193,59 +196,40 @@ module _ (t : List ℕ) (words : (i : ℕ) → getD t i 0 < 4294967296) (h : Fit
       let fits = h .cores k b in
       let link = next-of t in
       let all-heads : heads (c .run-queue) ≡ heads-of t k = heads-are t some k in
-      let first-active : first (c .active) ≡ w 3 = chain-first link (N-of t) (w 3) some in
-      let last-active : last (c .active) ≡ w 4 = sym (last-from-zero (c .active)) ∙ sym (fits .active .last-is) in
-      let size-active : length (c .active) ≡ w 5 =
+      let first-active : first (c .active) ≡ w core-first = chain-first link (N-of t) (w core-first) some in
+      let last-active : last (c .active) ≡ w core-last = sym (last-from-zero (c .active)) ∙ sym (fits .active .last-is) in
+      let size-active : length (c .active) ≡ w core-size =
       sym (zero-add (length (c .active))) ∙ sym (fits .active .size-is) ∙ ap (word t) (omega arith) in
-      let first-head : first (heads (c .run-queue)) ≡ w 8 = ap first all-heads ∙ chain-first (batch-behind t) (N-of t) (w 8) some in
-      let last-head : last (heads (c .run-queue)) ≡ w 9 =
+      let first-head : first (heads (c .run-queue)) ≡ w core-first-head = ap first all-heads ∙ chain-first (batch-behind t) (N-of t) (w core-first-head) some in
+      let last-head : last (heads (c .run-queue)) ≡ w core-last-head =
       ap last all-heads ∙ sym (last-from-zero (heads-of t k)) ∙ sym (fits .batches .last-is) in
-      let unused : (f : ℕ) → f < 6 → 0 ≡ w (10 + f) = λ f b. sym (flat .unused f b) ∙ ap (word t) (omega arith) in
-      let queues : queue-words c ≡ tabulate w 3 13 =
-      cc (
-        first-active,
-        last-active,
-        size-active,
-        flat .mark,
-        first-head,
-        last-head,
-        unused 0 (lit< tt),
-        unused 1 (lit< tt),
-        unused 2 (lit< tt),
-        unused 3 (lit< tt),
-        unused 4 (lit< tt),
-        unused 5 (lit< tt),
-      ) in
-      λ i. flat .work .1 i ++ queues i
+      let queues : first (c .active) ∷ last (c .active) ∷ length (c .active) ∷ c .dispatch ∷ bit (c .mark) ∷ first (heads (c .run-queue))
+      ∷ last (heads (c .run-queue)) ∷ [] ≡ tabulate w core-first (core-spare - core-first) =
+      cc (first-active, last-active, size-active, flat .mark, first-head, last-head) in
+      let unused = zero-block w core-spare (core-stride - core-spare) (λ f b. ap (word t) (omega arith) ∙ flat .unused f b) in
+      λ i. flat .work .1 i ++ (queues i ++ unused i)
 
   -- the header's words
-  header-is : header-words s ≡ tabulate (word t) 0 8
+  header-is : header-words s ≡ tabulate (word t) 0 header-size
   unfolding header-words
   header-is =
-      let unused = h .header .unused in
-      cc (
-        cores-of-view t,
-        processes-of-view t,
-        channels-of-view t,
-        unused 0 (lit< tt),
-        unused 1 (lit< tt),
-        unused 2 (lit< tt),
-        unused 3 (lit< tt),
-        unused 4 (lit< tt),
-      )
+      let sizes : length (s .cores) ∷ length (s .processes) ∷ length (s .channels) ∷ [] ≡ tabulate (word t) 0 header-spare =
+      cc (cores-of-view t, processes-of-view t, channels-of-view t) in
+      let unused = zero-block (word t) header-spare (header-size - header-spare) (h .header .unused) in
+      λ i. sizes i ++ unused i
 
   -- The table holds the words of the state.
   pub fits-holds : Holds (dims s) (words-of s) t
   fits-holds =
       record {
         size = rw (cores-of-view, processes-of-view, channels-of-view) (h .header .length);
-        header = λ f b. block-word (word t) 8 f (header-words s) header-is b;
+        header = λ f b. block-word (word t) header-size f (header-words s) header-is b;
         core = λ k f b c.
             let d = inside k b in
-            block-word (word-of-core t k) 16 f (core-words (core-of s k)) (ap core-words (core-of-view t k d) ∙ core-is k d) c;
+            block-word (word-of-core t k) core-stride f (core-words (core-of s k)) (ap core-words (core-of-view t k d) ∙ core-is k d) c;
         process = λ p f l b c.
             let d : p ≤ N-of t = subst (λ (n : ℕ). p ≤ n) (processes-of-view t) b in
-            rw cores-of-view (block-word (word-of-process t p) 24 f (process-words s p) (process-is p l d) c);
+            rw cores-of-view (block-word (word-of-process t p) process-stride f (process-words s p) (process-is p l d) c);
         channel = λ c f l b d.
             let e : c ≤ M-of t = subst (λ (n : ℕ). c ≤ n) (channels-of-view t) b in
             rw (cores-of-view, processes-of-view)

@@ -12,7 +12,7 @@ use lib.ListN.{length, take}
 use borrow.Author.Tests.{leb-true, leb-false, le-leb}
 use Rattle.rules.specs.Lists.{if_then_else_, within, all, tabulate, member, distinct}
 use Rattle.rules.specs.State.{Place, sending, receiving, Progress, Wiring, wiring}
-use Rattle.rules.specs.Layout.{process-at}
+use Rattle.rules.specs.Layout.{process-at, process-progress, process-channel, process-partner, process-guards, process-index, process-first-ready, process-first-guard, progress-size, guard-places, due-chose}
 use Rattle.rules.specs.Packing.{place-number, ready-number, padded, progress-words, K-of, N-of, M-of, word-of-process, ready-numbered, progress-numbered, view-process, view}
 use Rattle.rules.specs.Soundness.{is-process, own-end, own-guards, in-list, ready-in-list, valid-progress, fits}
 use Rattle.rules.proofs.Tabulate.{length-tabulate}
@@ -32,7 +32,11 @@ use Rattle.fitting.specs.Twin.{
   stands-among,
   guards-fit,
   channel-part,
+  partner-part,
+  guards-stand,
   guards-part,
+  index-part,
+  ready-part,
   progress-fits,
   place-fits,
 }
@@ -113,37 +117,36 @@ module _ (t : List ℕ) (p : ℕ) where
 
   -- where the guards stand
   abbrev guards-at : ℕ
-  guards-at = process-at (K-of t) p 12
+  guards-at = process-at (K-of t) p process-first-guard
 
-  -- the eight words of the guards, by their addresses
-  guard-words : tabulate (word-of-process t p) 12 8 ≡ tabulate (word t) guards-at 8
-  guard-words = tabulate-as (word-of-process t p) (word t) 12 guards-at 8 (λ i. ap (word t) (omega arith))
+  -- the words of the guards, by their addresses
+  guard-words : tabulate (word-of-process t p) process-first-guard guard-places ≡ tabulate (word t) guards-at guard-places
+  guard-words = tabulate-as (word-of-process t p) (word t) process-first-guard guards-at guard-places (λ i. ap (word t) (omega arith))
 
   -- the guards that are read out: as many as the word g says
   abbrev guards-read : ℕ → List ℕ
-  guards-read g = take g (tabulate (word-of-process t p) 12 8)
+  guards-read g = take g (tabulate (word-of-process t p) process-first-guard guard-places)
 
   module _ (g : ℕ) where
     -- the guards that are read out, by their addresses
-    guards-are : g ≤ 8 → guards-read g ≡ tabulate (word t) guards-at g
-    guards-are b = ap (take g) guard-words ∙ take-tabulate (word t) guards-at 8 g b
+    guards-are : g ≤ guard-places → guards-read g ≡ tabulate (word t) guards-at g
+    guards-are b = ap (take g) guard-words ∙ take-tabulate (word t) guards-at guard-places g b
 
     -- the test of a choice's guards, and of a progress without guards
     abbrev guards-tests : Bool → Bool
     guards-tests has =
-        if has then (within 1 8 g && guards-fit t (K-of t) (N-of t) (M-of t) p guards-at g && zeros t (guards-at + g) (8 - g))
-        else (eqb g 0 && zeros t guards-at 8)
+        if has then guards-stand t (K-of t) (N-of t) (M-of t) p g guards-at else (eqb g 0 && zeros t guards-at guard-places)
 
     -- the guards are valid, if there are any, and their number and their words are those that are packed
     abbrev GuardsRead : Bool → Type 0
     GuardsRead has =
         T (if has then own-guards w p (guards-read g) else true) × (length (if has then guards-read g else []) ≡ g)
-        × (padded 8 (if has then guards-read g else []) ≡ tabulate (word-of-process t p) 12 8)
+        × (padded guard-places (if has then guards-read g else []) ≡ tabulate (word-of-process t p) process-first-guard guard-places)
 
     -- what the test of a choice's guards says
     choice-means : T (guards-tests true) → GuardsRead true
     choice-means h =
-        let r = three (within 1 8 g) (guards-fit t (K-of t) (N-of t) (M-of t) p guards-at g) (zeros t (guards-at + g) (8 - g)) h in
+        let r = three (within 1 8 g) (guards-fit t (K-of t) (N-of t) (M-of t) p guards-at g) (zeros t (guards-at + g) (guard-places - g)) h in
         let b = within-means 1 8 g (r .0) in
         let e : guards-read g ≡ tabulate (word t) guards-at g = guards-are (b .1) in
         let size : length (guards-read g) ≡ g = ap length e ∙ length-tabulate (word t) guards-at g in
@@ -151,7 +154,7 @@ module _ (t : List ℕ) (p : ℕ) where
           all-three (within 1 8 (length (guards-read g))) (all (own-end w receiving p) (guards-read g)) (distinct (guards-read g))
               (rw size (r .0)) (rw e (f .0)) (rw e (f .1)),
           size,
-          ap (padded 8) e ∙ padded-exact t guards-at 8 g (b .1) .0 (r .2) ∙ sym guard-words,
+          ap (padded guard-places) e ∙ padded-exact t guards-at guard-places g (b .1) .0 (r .2) ∙ sym guard-words,
         )
 
     -- and what says as much
@@ -164,17 +167,17 @@ module _ (t : List ℕ) (p : ℕ) where
         let e : gs ≡ tabulate (word t) guards-at g = guards-are (b .1) in
         let own = subst (λ (l : List ℕ). T (all (own-end w receiving p) l)) e (r .1) in
         let apart = subst (λ (l : List ℕ). T (distinct l)) e (r .2) in
-        all-three (within 1 8 g) (guards-fit t (K-of t) (N-of t) (M-of t) p guards-at g) (zeros t (guards-at + g) (8 - g)) inside
+        all-three (within 1 8 g) (guards-fit t (K-of t) (N-of t) (M-of t) p guards-at g) (zeros t (guards-at + g) (guard-places - g)) inside
         (guards-fit-exact guards-at g .1 (own, apart))
-        (padded-exact t guards-at 8 g (b .1) .1 (ap (padded 8) (sym e) ∙ h .2 ∙ guard-words))
+        (padded-exact t guards-at guard-places g (b .1) .1 (ap (padded guard-places) (sym e) ∙ h .2 ∙ guard-words))
 
     -- Guards fit exactly where they are those that are packed.
     guards-exact : (has : Bool) → T (guards-tests has) ↔ GuardsRead has
     guards-exact true = (choice-means, means-choice)
     guards-exact false = (
-      λ h. let r = both (eqb g 0) (zeros t guards-at 8) h in
-          (tt, sym (eqb→eq g 0 (r .0)), zeros-exact t guards-at 8 .0 (r .1) ∙ sym guard-words),
-      λ h. together (eqb g 0) (zeros t guards-at 8) (equal-holds g 0 (sym (h .1))) (zeros-exact t guards-at 8 .1 (h .2 ∙ guard-words)),
+      λ h. let r = both (eqb g 0) (zeros t guards-at guard-places) h in
+          (tt, sym (eqb→eq g 0 (r .0)), zeros-exact t guards-at guard-places .0 (r .1) ∙ sym guard-words),
+      λ h. together (eqb g 0) (zeros t guards-at guard-places) (equal-holds g 0 (sym (h .1))) (zeros-exact t guards-at guard-places .1 (h .2 ∙ guard-words)),
     )
 
     -- there are as many guards as the word says
@@ -197,19 +200,19 @@ module _ (t : List ℕ) (p : ℕ) where
     channel-test = channel-part t (K-of t) (N-of t) (M-of t) p n c
 
     abbrev partner-test : Bool
-    partner-test = if has-partner n then within 1 (N-of t) q else eqb q 0
+    partner-test = partner-part (N-of t) n q
 
     abbrev index-test : Bool
-    index-test = if has-index n then within 1 g i else eqb i 0
+    index-test = index-part n g i
 
     abbrev ready-test : Bool
-    ready-test = if has-ready n then leb r g else eqb r 0
+    ready-test = ready-part n g r
 
     abbrev guards-test : Bool
     guards-test = guards-part t (K-of t) (N-of t) (M-of t) p n g guards-at
 
     abbrev tests : Bool
-    tests = leb n 23 && channel-test && partner-test && guards-test && index-test && ready-test
+    tests = leb n due-chose && channel-test && partner-test && guards-test && index-test && ready-test
 
     -- what has to be valid of each
     abbrev channel-valid : Bool
@@ -247,17 +250,17 @@ module _ (t : List ℕ) (p : ℕ) where
 
     -- the progress is valid and has these words
     abbrev Good : Type 0
-    Good = T (valid-progress w p read) × (progress-words read ≡ n ∷ c ∷ q ∷ g ∷ i ∷ r ∷ tabulate (word-of-process t p) 12 8)
+    Good = T (valid-progress w p read) × (progress-words read ≡ n ∷ c ∷ q ∷ g ∷ i ∷ r ∷ tabulate (word-of-process t p) process-first-guard guard-places)
 
     -- a progress that is read out has the shape of its number
-    shape : n ≤ 23 → Shape w p c q gs i (ready-numbered r) n read
+    shape : n ≤ due-chose → Shape w p c q gs i (ready-numbered r) n read
     shape = shape-of w p c q gs i (ready-numbered r) n .0
 
     -- what the tests say
     tests-mean : T tests → Good
     tests-mean h =
-        let u = six (leb n 23) channel-test partner-test guards-test index-test ready-test h in
-        let s = shape (leb→le n 23 (u .0)) in
+        let u = six (leb n due-chose) channel-test partner-test guards-test index-test ready-test h in
+        let s = shape (leb→le n due-chose (u .0)) in
         let guards = guards-exact g (has-guards n) .0 (u .3) in
         let size : length gs ≡ g = guards-length g (has-guards n) guards in
         let channel = channel-exact .0 (u .1) in
@@ -266,19 +269,19 @@ module _ (t : List ℕ) (p : ℕ) where
         let ready = ready-exact size .0 (u .5) in
         let valid : T (shape-valid w p c q gs i (ready-numbered r) n) =
         all-five channel-valid partner-valid guards-valid index-valid ready-valid (channel .0) (partner .0) (guards .0) (index .0) (ready .0) in
-        let words : shape-words w p c q gs i (ready-numbered r) n ≡ n ∷ c ∷ q ∷ g ∷ i ∷ r ∷ tabulate (word-of-process t p) 12 8 =
+        let words : shape-words w p c q gs i (ready-numbered r) n ≡ n ∷ c ∷ q ∷ g ∷ i ∷ r ∷ tabulate (word-of-process t p) process-first-guard guard-places =
         cc (channel .1, partner .1, guards .1, guards .2, index .1, ready .1) in
         (rw (s .valid) valid, s .words ∙ words)
 
-    -- a number of a progress that has these words is one of 0 to 23
-    bound : Good → n ≤ 23
+    -- a number of a progress that has these words is one of those that are listed
+    bound : Good → n ≤ due-chose
     unfolding progress-words
-    bound h = cases (leb n 23) refl
+    bound h = cases (leb n due-chose) refl
       where
-        cases : (b : Bool) → leb n 23 ≡ b → n ≤ 23
-        cases true e = leb-true n 23 e
+        cases : (b : Bool) → leb n due-chose ≡ b → n ≤ due-chose
+        cases true e = leb-true n due-chose e
         cases false e =
-            let beyond : 24 ≤ n = leb-false n 23 e in
+            let beyond : suc due-chose ≤ n = leb-false n due-chose e in
             let words = sym (h .1) ∙ ap progress-words (shape-of w p c q gs i (ready-numbered r) n .1 beyond) in
             let none : n ≡ 0 = cc in absurd (omega arith)
 
@@ -291,7 +294,7 @@ module _ (t : List ℕ) (p : ℕ) where
         let words = sym (s .words) ∙ h .1 in
         let guards : GuardsRead g (has-guards n) = (u .2, (cc), (cc)) in
         let size : length gs ≡ g = guards-length g (has-guards n) guards in
-        all-six (leb n 23) channel-test partner-test guards-test index-test ready-test (le→leb n 23 b)
+        all-six (leb n due-chose) channel-test partner-test guards-test index-test ready-test (le→leb n due-chose b)
         (channel-exact .1 (u .0, (cc))) (partner-exact .1 (u .1, (cc))) (guards-exact g (has-guards n) .1 guards)
         (index-exact size .1 (u .3, (cc))) (ready-exact size .1 (u .4, (cc)))
 
@@ -301,17 +304,17 @@ module _ (t : List ℕ) (p : ℕ) where
 
   -- The words of a progress fit exactly where they are those of a valid progress.
   pub progress-exact : T (progress-fits t (K-of t) (N-of t) (M-of t) p)
-      ↔ (T (valid-progress w p progress-read) × (progress-words progress-read ≡ tabulate (word-of-process t p) 6 14))
+      ↔ (T (valid-progress w p progress-read) × (progress-words progress-read ≡ tabulate (word-of-process t p) process-progress progress-size))
   unfolding view-process
   progress-exact =
       let f = word-of-process t p in
-      (tests-mean (f 6) (f 7) (f 8) (f 9) (f 10) (f 11), means-tests (f 6) (f 7) (f 8) (f 9) (f 10) (f 11))
+      (tests-mean (f process-progress) (f process-channel) (f process-partner) (f process-guards) (f process-index) (f process-first-ready), means-tests (f process-progress) (f process-channel) (f process-partner) (f process-guards) (f process-index) (f process-first-ready))
 
   -- A progress whose words fit goes with the places that its number goes with.
   pub places-are : T (progress-fits t (K-of t) (N-of t) (M-of t) p) → (y : Place)
-      → fits y progress-read ≡ place-fits (place-number y) (word-of-process t p 6)
+      → fits y progress-read ≡ place-fits (place-number y) (word-of-process t p process-progress)
   unfolding view-process
   places-are h y =
       let f = word-of-process t p in
-      let good = tests-mean (f 6) (f 7) (f 8) (f 9) (f 10) (f 11) h in
-      shape (f 6) (f 7) (f 8) (f 9) (f 10) (f 11) (bound (f 6) (f 7) (f 8) (f 9) (f 10) (f 11) good) .places y
+      let good = tests-mean (f process-progress) (f process-channel) (f process-partner) (f process-guards) (f process-index) (f process-first-ready) h in
+      shape (f process-progress) (f process-channel) (f process-partner) (f process-guards) (f process-index) (f process-first-ready) (bound (f process-progress) (f process-channel) (f process-partner) (f process-guards) (f process-index) (f process-first-ready) good) .places y

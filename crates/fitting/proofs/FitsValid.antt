@@ -7,6 +7,7 @@ use native.Mathlib.Omega.{arith}
 use lib.Dec.{T, leb, le→leb, lt→ltb, eqb}
 use lib.ListN.{length, getD}
 use borrow.Author.Tests.{leb-true, leb-false, eq-eqb}
+use Rattle.rules.specs.Layout.{process-place}
 use Rattle.rules.specs.Lists.{all, total, from, times, first, bit}
 use Rattle.rules.specs.State.{Core, Channel, queues-of, Wiring, wiring}
 use Rattle.rules.specs.Items.{core-of, no-core, no-channel}
@@ -34,7 +35,7 @@ use Rattle.fitting.proofs.CoreWalks.{CoreFits, chain-first, heads-of, h
 use Rattle.fitting.proofs.Views.{cores-of-view, processes-of-view, channels-of-view, core-of-view, process-of-view, channel-of-view}
 use Rattle.fitting.proofs.FitsCore.{FlatCore, core-fits-means}
 use Rattle.fitting.proofs.FitsProcess.{NoLinks, meeting-exact}
-use Rattle.fitting.proofs.Fitting.{header-processes, Fitting}
+use Rattle.fitting.proofs.Fitting.{processes-limits, Fitting}
 use Rattle.fitting.proofs.Links.{heads-in, heads-le, standing-is, load-is}
 
 -- a linked list that begins with a process is not empty
@@ -90,7 +91,7 @@ module _ (t : List ℕ) (words : (i : ℕ) → getD t i 0 < 4294967296) (h : Fit
 
   -- there is a process
   some : 1 ≤ N-of t
-  some = header-processes t (h .header) .0
+  some = processes-limits t (h .header) .0
 
   -- who stands somewhere is a process
   standing-range : (q : ℕ) → 1 ≤ on-cores (view t) q + in-queues (view t) q → (1 ≤ q) × (q ≤ N-of t)
@@ -153,7 +154,7 @@ module _ (t : List ℕ) (words : (i : ℕ) → getD t i 0 < 4294967296) (h : Fit
   stands-linked p l b =
       let y = view-process t p .place in
       let state = h .processes p l b .state in
-      let place : word-of-process t p 0 ≡ place-number y = cc in
+      let place : word-of-process t p process-place ≡ place-number y = cc in
       meeting-exact t (K-of t) p (on-cores (view t) p) (in-queues (view t) p) (heads-in (view t) p) y (standing-once p)
       (heads-below t some (h .cores) p) .0 (rw (place, load-is) at (h .meetings p l b))
 

@@ -1,5 +1,5 @@
 -- What the check finds, put together: a table fits exactly where its header, cores, processes and channels do.
-use Prim.Native.Nat.{ℕ, zero, suc, _+_, _≤_, _<_}
+use Prim.Native.Nat.{ℕ, zero, suc, _+_, _-_, _≤_, _<_}
 use mathlib.Core.Path.{_≡_, refl, ap, _∙_}
 use mathlib.Core.Bool.{Bool, true, false, _&&_}
 use mathlib.Core.List.{List}
@@ -10,7 +10,7 @@ use lib.Dec.{T, eqb, leb, eqb→eq, le→leb}
 use lib.ListN.{length, getD, replicate, length-replicate, getD-replicate}
 use Rattle.rules.specs.Lists.{if_then_else_, within, all, total, from}
 use Rattle.rules.specs.State.{wiring}
-use Rattle.rules.specs.Layout.{room}
+use Rattle.rules.specs.Layout.{header-size, room, header-spare, process-place}
 use Rattle.rules.specs.SetUp.{sizes}
 use Rattle.rules.specs.Packing.{K-of, N-of, M-of, word-of-process, view-channel, view}
 use Rattle.rules.specs.Soundness.{valid-channel}
@@ -45,8 +45,8 @@ as-all check f none more a zero = none a
 as-all check f none more a (suc n) = more a n ∙ ap (λ (b : Bool). f a && b) (as-all check f none more (suc a) n)
 
 -- the check of all processes
-processes-fit-is : (t : List ℕ) (K N M : ℕ) (met : List ℕ) (p n : ℕ) → processes-fit t K N M met p n ≡ all (process-fits t K N M met) (from p n)
-processes-fit-is t K N M met = as-all (processes-fit t K N M met) (process-fits t K N M met) (λ a. refl) (λ a n. refl)
+processes-fit-is : (t : List ℕ) (K N M : ℕ) (met : List ℕ) (p n : ℕ) → processes-fit t K N M met p n ≡ all (λ p. process-fits t K N M p (getD met p 0)) (from p n)
+processes-fit-is t K N M met = as-all (processes-fit t K N M met) (λ p. process-fits t K N M p (getD met p 0)) (λ a. refl) (λ a n. refl)
 
 -- the check of all channels
 channels-fit-is : (t : List ℕ) (K N c n : ℕ) → channels-fit t K N c n ≡ all (channel-fits t K N) (from c n)
@@ -56,23 +56,26 @@ channels-fit-is t K N = as-all (channels-fit t K N) (channel-fits t K N) (λ a. 
 pub record HeaderFits (t : List ℕ) : Type 0 where
   pub sizes : T (sizes (K-of t) (N-of t) (M-of t))
   pub length : length t ≡ room (K-of t) (N-of t) (M-of t)
-  pub unused : (i : ℕ) → i < 5 → word t (3 + i) ≡ 0
+  pub unused : (i : ℕ) → i < header-size - header-spare → word t (header-spare + i) ≡ 0
 
 -- a header fits exactly where it says this
 header-exact : (t : List ℕ) → T (header-fits t) ↔ HeaderFits t
 header-exact t = (
-  λ h. let u = four (leb 8 (length t)) (sizes (K-of t) (N-of t) (M-of t)) (eqb (length t) size) (zeros t 3 5) h in
-      record { sizes = u .1; length = eqb→eq (length t) size (u .2); unused = zeros-mean t 3 5 (u .3) },
-  λ h. all-four (leb 8 (length t)) (sizes (K-of t) (N-of t) (M-of t)) (eqb (length t) size) (zeros t 3 5)
-      (le→leb 8 (length t) (omega (arith, h .length))) (h .sizes) (equal-holds (length t) size (h .length)) (zeros-hold t 3 5 (h .unused)),
+  λ h. let u = four (leb header-size (length t)) (sizes (K-of t) (N-of t) (M-of t)) (eqb (length t) size) (unused-test) h in
+      record { sizes = u .1; length = eqb→eq (length t) size (u .2); unused = zeros-mean t header-spare (header-size - header-spare) (u .3) },
+  λ h. all-four (leb header-size (length t)) (sizes (K-of t) (N-of t) (M-of t)) (eqb (length t) size) (unused-test)
+      (le→leb header-size (length t) (omega (arith, h .length))) (h .sizes) (equal-holds (length t) size (h .length)) (zeros-hold t header-spare (header-size - header-spare) (h .unused)),
 )
   where
     size : ℕ
     size = room (K-of t) (N-of t) (M-of t)
 
+    unused-test : Bool
+    unused-test = zeros t header-spare (header-size - header-spare)
+
 -- there are 1 to 256 processes
-pub header-processes : (t : List ℕ) → HeaderFits t → (1 ≤ N-of t) × (N-of t ≤ 256)
-header-processes t h =
+pub processes-limits : (t : List ℕ) → HeaderFits t → (1 ≤ N-of t) × (N-of t ≤ 256)
+processes-limits t h =
     within-means 1 256 (N-of t) (three (within 1 8 (K-of t)) (within 1 256 (N-of t)) (within 0 256 (M-of t)) (h .sizes) .1)
 
 -- what a table that fits says
@@ -81,7 +84,7 @@ pub record Fitting (t : List ℕ) : Type 0 where
   pub cores : (k : ℕ) → k < K-of t → CoreFits t k
   pub apart : Apart (N-of t) (λ q. 0) (λ q. total (standing q) (view t .cores))
   pub processes : (p : ℕ) → 1 ≤ p → p ≤ N-of t → FlatProcess t p
-  pub meetings : (p : ℕ) → 1 ≤ p → p ≤ N-of t → T (meeting-fits t (K-of t) p (word-of-process t p 0) (total (load p) (view t .cores)))
+  pub meetings : (p : ℕ) → 1 ≤ p → p ≤ N-of t → T (meeting-fits t (K-of t) p (word-of-process t p process-place) (total (load p) (view t .cores)))
   pub channels : (c : ℕ) → 1 ≤ c → c ≤ M-of t → T (valid-channel (wiring (view t)) (view-channel t c))
 
 module _ (t : List ℕ) (words : (i : ℕ) → getD t i 0 < 4294967296) (header : HeaderFits t) where
@@ -94,7 +97,7 @@ module _ (t : List ℕ) (words : (i : ℕ) → getD t i 0 < 4294967296) (header 
 
   -- there are 1 to 256 processes
   limits : (1 ≤ N-of t) × (N-of t ≤ 256)
-  limits = header-processes t header
+  limits = processes-limits t header
 
   -- nobody is met at first
   nobody-met : Met (N-of t) (λ q. 0) (replicate 257 0)
@@ -114,14 +117,18 @@ module _ (t : List ℕ) (words : (i : ℕ) → getD t i 0 < 4294967296) (header 
   channel-is : (c : ℕ) → valid-channel (wiring (view t)) (view-channel t c) ≡ channel-fits t (K-of t) (N-of t) c
   channel-is c = channel-fits-is t (wiring (view t)) (processes-of-view t) c (words _)
 
+  -- the test of process p
+  abbrev process-test : List ℕ → ℕ → Bool
+  process-test met p = process-fits t (K-of t) (N-of t) (M-of t) p (getD met p 0)
+
   -- what the rest of the check says, after a walk that is exact
   rest-means : (walk : Walk) → Exact CoresFit CoresMet walk → T (rest-fits t (K-of t) (N-of t) (M-of t) walk) → Fitting t
   rest-means flaw e h = absurd h
   rest-means (well met) e h =
       let u = both (processes-fit t (K-of t) (N-of t) (M-of t) met 1 (N-of t)) (channels-fit t (K-of t) (N-of t) 1 (M-of t)) h in
-      let each = all-from (process-fits t (K-of t) (N-of t) (M-of t) met) 1 (N-of t) (rw processes-fit-is at (u .0)) in
-      let part : (p : ℕ) (l : 1 ≤ p) (b : p ≤ N-of t) → FlatProcess t p × T (meeting-fits t (K-of t) p (word-of-process t p 0) (getD met p 0)) =
-      λ p l b. process-exact t met p .0 (each p l (omega arith)) in
+      let each = all-from (process-test met) 1 (N-of t) (rw processes-fit-is at (u .0)) in
+      let part : (p : ℕ) (l : 1 ≤ p) (b : p ≤ N-of t) → FlatProcess t p × T (meeting-fits t (K-of t) p (word-of-process t p process-place) (getD met p 0)) =
+      λ p l b. process-exact t p (getD met p 0) .0 (each p l (omega arith)) in
       let channel = all-from (channel-fits t (K-of t) (N-of t)) 1 (M-of t) (rw channels-fit-is at (u .1)) in
       record {
         header = header;
@@ -137,11 +144,11 @@ module _ (t : List ℕ) (words : (i : ℕ) → getD t i 0 < 4294967296) (header 
   means-rest flaw e h = absurd (e (λ k l b. h .cores k (omega arith), h .apart))
   means-rest (well met) e h =
       together (processes-fit t (K-of t) (N-of t) (M-of t) met 1 (N-of t)) (channels-fit t (K-of t) (N-of t) 1 (M-of t))
-      (rw processes-fit-is (from-holds (process-fits t (K-of t) (N-of t) (M-of t) met) 1 (N-of t) (λ p l b. process p l (omega arith))))
+      (rw processes-fit-is (from-holds (process-test met) 1 (N-of t) (λ p l b. process p l (omega arith))))
       (rw channels-fit-is (from-holds (channel-fits t (K-of t) (N-of t)) 1 (M-of t) channel))
     where
-      process : (p : ℕ) → 1 ≤ p → p ≤ N-of t → T (process-fits t (K-of t) (N-of t) (M-of t) met p)
-      process p l b = process-exact t met p .1 (h .processes p l b, rw (number met (e .1) p l b) (h .meetings p l b))
+      process : (p : ℕ) → 1 ≤ p → p ≤ N-of t → T (process-test met p)
+      process p l b = process-exact t p (getD met p 0) .1 (h .processes p l b, rw (number met (e .1) p l b) (h .meetings p l b))
 
       channel : (c : ℕ) → 1 ≤ c → c < 1 + M-of t → T (channel-fits t (K-of t) (N-of t) c)
       channel c l b = rw (channel-is c) at (h .channels c l (omega arith))

@@ -1,4 +1,4 @@
--- Which words of a progress mean something, by its number: for each of the 24 numbers, the words of the progress that is read out,
+-- Which words of a progress mean something, by its number: for each number, the words of the progress that is read out,
 -- when it is valid and which places it fits.
 use Prim.Native.Nat.{ℕ, zero, suc, _+_, _≤_, _<_}
 use mathlib.Core.Path.{_≡_, refl, sym, subst}
@@ -10,6 +10,7 @@ use native.Mathlib.Nat.{add-zero, zero-add}
 use lib.Dec.{T, leb, leb→le}
 use lib.ListN.{length, getD}
 use borrow.Author.Tests.{ne-eqb, le-leb, lt-leb}
+use Rattle.rules.specs.Layout.{at-nothing, at-send-look, at-send-park, at-send-copy, at-send-clear, at-send-wake, at-receive-look, at-receive-park, at-receive-copy, at-receive-clear, at-receive-wake, at-enable-look, at-raise, at-place-name, at-ready-from-look, at-ready-from-place, at-wait, at-disable, at-lower, at-finish, due-go, due-sent, due-got, due-chose}
 use Rattle.rules.specs.Lists.{if_then_else_, within}
 use Rattle.rules.specs.State.{
   Place,
@@ -53,21 +54,21 @@ use Rattle.fitting.proofs.Tests.{and-true}
 use Rattle.fitting.specs.Twin.{is-sender, is-receiver, has-partner, has-guards, has-index, has-ready, place-fits}
 
 -- a stage fits running, queued and sleeping processes
-fits-doing : (n : ℕ) → 1 ≤ n → n ≤ 19 → (x : Stage) (y : Place) → fits y (doing x) ≡ place-fits (place-number y) n
-fits-doing n l b x running = sym (le-leb n 19 b)
-fits-doing n l b x queued = sym (le-leb 1 n l)
-fits-doing n l b x asleep = sym (le-leb 1 n l)
-fits-doing n l b x ended = sym (ne-eqb n 0 (λ e. omega arith))
+fits-doing : (n : ℕ) → at-send-look ≤ n → n ≤ at-finish → (x : Stage) (y : Place) → fits y (doing x) ≡ place-fits (place-number y) n
+fits-doing n l b x running = sym (le-leb n at-finish b)
+fits-doing n l b x queued = sym (le-leb at-send-look n l)
+fits-doing n l b x asleep = sym (le-leb at-send-look n l)
+fits-doing n l b x ended = sym (ne-eqb n at-nothing (λ e. omega arith))
 
 -- an outcome fits queued and sleeping processes
-fits-due : (n : ℕ) → 20 ≤ n → (x : Outcome) (y : Place) → fits y (due x) ≡ place-fits (place-number y) n
-fits-due n l x running = sym (lt-leb n 19 l)
-fits-due n l x queued = sym (le-leb 1 n (omega arith))
-fits-due n l x asleep = sym (le-leb 1 n (omega arith))
-fits-due n l x ended = sym (ne-eqb n 0 (λ e. omega arith))
+fits-due : (n : ℕ) → due-go ≤ n → (x : Outcome) (y : Place) → fits y (due x) ≡ place-fits (place-number y) n
+fits-due n l x running = sym (lt-leb n at-finish l)
+fits-due n l x queued = sym (le-leb at-send-look n (omega arith))
+fits-due n l x asleep = sym (le-leb at-send-look n (omega arith))
+fits-due n l x ended = sym (ne-eqb n at-nothing (λ e. omega arith))
 
 -- nothing in hand fits running and ended processes
-fits-nothing : (y : Place) → fits y nothing ≡ place-fits (place-number y) 0
+fits-nothing : (y : Place) → fits y nothing ≡ place-fits (place-number y) at-nothing
 fits-nothing running = refl
 fits-nothing queued = refl
 fits-nothing asleep = refl
@@ -109,43 +110,43 @@ module _ (w : Wiring) (p c q : ℕ) (gs : List ℕ) (i : ℕ) (r : Option ℕ) w
       (λ b. subst (λ (m : ℕ). Shape m (getD xs n nothing)) e (r .0 (omega arith)), λ b. r .1 (omega arith))
 
   -- a stage with its number
-  stage : (n : ℕ) → T (within 1 19 n) → (x : Stage) → progress-words (doing x) ≡ shape-words n → valid-progress w p (doing x) ≡ shape-valid n
+  stage : (n : ℕ) → T (within at-send-look at-finish n) → (x : Stage) → progress-words (doing x) ≡ shape-words n → valid-progress w p (doing x) ≡ shape-valid n
       → Shape n (doing x)
-  stage n b x e v = let r = within-means 1 19 n b in record { words = e; valid = v; places = fits-doing n (r .0) (r .1) x }
+  stage n b x e v = let r = within-means at-send-look at-finish n b in record { words = e; valid = v; places = fits-doing n (r .0) (r .1) x }
 
   -- an outcome with its number
-  outcome : (n : ℕ) → T (leb 20 n) → (x : Outcome) → progress-words (due x) ≡ shape-words n → valid-progress w p (due x) ≡ shape-valid n
+  outcome : (n : ℕ) → T (leb due-go n) → (x : Outcome) → progress-words (due x) ≡ shape-words n → valid-progress w p (due x) ≡ shape-valid n
       → Shape n (due x)
-  outcome n b x e v = record { words = e; valid = v; places = fits-due n (leb→le 20 n b) x }
+  outcome n b x e v = record { words = e; valid = v; places = fits-due n (leb→le due-go n b) x }
 
   -- The progress of each number has its shape, and what is no number of one is read as nothing.
-  pub shape-of : (n : ℕ) → (n ≤ 23 → Shape n (progress-numbered n c q gs i r)) × (24 ≤ n → progress-numbered n c q gs i r ≡ nothing)
+  pub shape-of : (n : ℕ) → (n ≤ due-chose → Shape n (progress-numbered n c q gs i r)) × (suc due-chose ≤ n → progress-numbered n c q gs i r ≡ nothing)
   unfolding progress-words
   shape-of n =
       let found = shape-at (row (record { words = refl; valid = refl; places = fits-nothing })
-      (row (stage 1 tt (look sending c) refl (simp and-true))
-      (row (stage 2 tt (park sending c) refl (simp and-true))
-      (row (stage 3 tt (copy sending c q) refl (simp and-true))
-      (row (stage 4 tt (clear sending c q) refl (simp and-true))
-      (row (stage 5 tt (wake sending c q) refl (simp and-true))
-      (row (stage 6 tt (look receiving c) refl (simp and-true))
-      (row (stage 7 tt (park receiving c) refl (simp and-true))
-      (row (stage 8 tt (copy receiving c q) refl (simp and-true))
-      (row (stage 9 tt (clear receiving c q) refl (simp and-true))
-      (row (stage 10 tt (wake receiving c q) refl (simp and-true))
-      (row (stage 11 tt (enable-look gs i) refl (simp and-true))
-      (row (stage 12 tt (raise gs i) refl (simp and-true))
-      (row (stage 13 tt (place-name gs i) refl (simp and-true))
-      (row (stage 14 tt (ready-from-look gs i) refl (simp and-true))
-      (row (stage 15 tt (ready-from-place gs i) refl (simp and-true))
-      (row (stage 16 tt (wait gs) refl (simp and-true))
-      (row (stage 17 tt (disable gs i r) refl refl)
-      (row (stage 18 tt (lower gs i r) refl refl)
-      (row (stage 19 tt (finish gs r) refl (simp and-true))
-      (row (outcome 20 tt go refl (simp and-true))
-      (row (outcome 21 tt (sent c) refl (simp and-true))
-      (row (outcome 22 tt (got c) refl (simp and-true))
-      (row (outcome 23 tt (chose c) refl (simp and-true))
+      (row (stage at-send-look tt (look sending c) refl (simp and-true))
+      (row (stage at-send-park tt (park sending c) refl (simp and-true))
+      (row (stage at-send-copy tt (copy sending c q) refl (simp and-true))
+      (row (stage at-send-clear tt (clear sending c q) refl (simp and-true))
+      (row (stage at-send-wake tt (wake sending c q) refl (simp and-true))
+      (row (stage at-receive-look tt (look receiving c) refl (simp and-true))
+      (row (stage at-receive-park tt (park receiving c) refl (simp and-true))
+      (row (stage at-receive-copy tt (copy receiving c q) refl (simp and-true))
+      (row (stage at-receive-clear tt (clear receiving c q) refl (simp and-true))
+      (row (stage at-receive-wake tt (wake receiving c q) refl (simp and-true))
+      (row (stage at-enable-look tt (enable-look gs i) refl (simp and-true))
+      (row (stage at-raise tt (raise gs i) refl (simp and-true))
+      (row (stage at-place-name tt (place-name gs i) refl (simp and-true))
+      (row (stage at-ready-from-look tt (ready-from-look gs i) refl (simp and-true))
+      (row (stage at-ready-from-place tt (ready-from-place gs i) refl (simp and-true))
+      (row (stage at-wait tt (wait gs) refl (simp and-true))
+      (row (stage at-disable tt (disable gs i r) refl refl)
+      (row (stage at-lower tt (lower gs i r) refl refl)
+      (row (stage at-finish tt (finish gs r) refl (simp and-true))
+      (row (outcome due-go tt go refl (simp and-true))
+      (row (outcome due-sent tt (sent c) refl (simp and-true))
+      (row (outcome due-got tt (got c) refl (simp and-true))
+      (row (outcome due-chose tt (chose c) refl (simp and-true))
       end)))))))))))))))))))))))) n in
       rw (progress-by-place n c q gs i r)
       (λ b. subst (λ (m : ℕ). Shape m (getD (progress-list c q gs i r) n nothing)) (zero-add n) (found .0 (omega arith)), found .1)

@@ -1,8 +1,8 @@
 -- A sound table fits: its parts are those of a valid state, and its words those of the state's packing.
-use Prim.Native.Nat.{ℕ, zero, suc, _+_, _≤_, _<_}
+use Prim.Native.Nat.{ℕ, zero, suc, _+_, _-_, _≤_, _<_}
 use mathlib.Core.Path.{_≡_, refl, sym, ap, _∙_, subst}
 use mathlib.Core.Bool.{Bool, true, false, _&&_}
-use mathlib.Core.List.{List, [], _∷_}
+use mathlib.Core.List.{List, [], _∷_, _++_}
 use native.Mathlib.Omega.{arith}
 use native.Mathlib.Nat.{zero-add}
 use lib.Dec.{T, leb, eqb, lit<, eqb→eq}
@@ -12,8 +12,8 @@ use Rattle.rules.specs.Lists.{all, total, tabulate, from, times, first, last, b
 use Rattle.rules.specs.State.{Place, running, queued, asleep, ended, Work, runs, free, Core, Process, Channel, queues-of, State, Wiring, wiring}
 use Rattle.rules.specs.Items.{core-of, process-of, no-core, no-channel}
 use Rattle.rules.specs.SetUp.{sizes}
-use Rattle.rules.specs.Layout.{core-at, process-at}
-use Rattle.rules.specs.Packing.{heads, place-number, work-words, progress-words, next-link, head-link, batch-link, header-words, pack, K-of, N-of, M-of, word-of-core, word-of-process, view-core, view-process, view-channel, view}
+use Rattle.rules.specs.Layout.{header-size, core-stride, process-stride, core-at, process-at, header-spare, core-first, core-last, core-size, core-mark, core-first-head, core-last-head, core-spare, process-place, process-progress, process-next, process-last, process-size, process-next-head, process-spare, progress-size, links-size}
+use Rattle.rules.specs.Packing.{heads, place-number, work-words, progress-words, next-link, head-link, batch-link, header-words, process-words, spare, pack, K-of, N-of, M-of, word-of-core, word-of-process, view-core, view-process, view-channel, view}
 use Rattle.rules.specs.Soundness.{
   runs-it,
   valid-progress,
@@ -40,7 +40,7 @@ use Rattle.fitting.proofs.CoreWalks.{standing, load, CoreFits, chain-fi
 use Rattle.fitting.proofs.Views.{cores-of-view, processes-of-view, channels-of-view, core-of-view, process-of-view, channel-of-view}
 use Rattle.fitting.proofs.FitsCore.{FlatCore, means-core-fits}
 use Rattle.fitting.proofs.FitsProcess.{FlatProcess, NoLinks, meeting-exact}
-use Rattle.fitting.proofs.Fitting.{HeaderFits, header-processes, Fitting}
+use Rattle.fitting.proofs.Fitting.{HeaderFits, processes-limits, Fitting}
 use Rattle.fitting.proofs.Links.{
   linked-back,
   last-from-zero,
@@ -106,17 +106,19 @@ module _ (t : List ℕ) (good : T (valid (view t))) (packed : pack (view t) ≡ 
         sizes = rw (cores-of-view, processes-of-view, channels-of-view) at (parts .0);
         length = rw (cores-of-view, processes-of-view, channels-of-view) at (ap length (sym packed) ∙ pack-holds s .size);
         unused = λ i b.
-            subst (λ (u : List ℕ). word u (3 + i) ≡ getD (header-words s) (3 + i) 0) packed (pack-holds s .header (3 + i) (omega arith))
-            ∙ second-part (w .K ∷ w .N ∷ length (s .channels) ∷ []) (replicate 5 0) 3 i refl ∙ getD-replicate 5 i 0 0 b;
+            subst (λ (u : List ℕ). word u (header-spare + i) ≡ getD (header-words s) (header-spare + i) 0) packed
+            (pack-holds s .header (header-spare + i) (omega arith))
+            ∙ second-part (w .K ∷ w .N ∷ length (s .channels) ∷ []) (spare header-size header-spare) header-spare i refl
+            ∙ getD-replicate (header-size - header-spare) i 0 0 b;
       }
 
   -- there is a process
   some : 1 ≤ N-of t
-  some = header-processes t header-fits .0
+  some = processes-limits t header-fits .0
 
   -- the link words of a process
-  links : (p : ℕ) → 1 ≤ p → p ≤ length (s .processes) → (f : ℕ) → f < 4 → word-of-process t p (20 + f) ≡ getD (link-words s p) f 0
-  links p l b f c = subst (λ (u : List ℕ). word-of-process u p (20 + f) ≡ getD (link-words s p) f 0) packed (link-word s p l b f c)
+  links : (p : ℕ) → 1 ≤ p → p ≤ length (s .processes) → (f : ℕ) → f < links-size → word-of-process t p (process-next + f) ≡ getD (link-words s p) f 0
+  links p l b f c = subst (λ (u : List ℕ). word-of-process u p (process-next + f) ≡ getD (link-words s p) f 0) packed (link-word s p l b f c)
 
   module _ (k : ℕ) (b : k < K-of t) where
     -- the core is one of the state
@@ -128,15 +130,15 @@ module _ (t : List ℕ) (good : T (valid (view t))) (packed : pack (view t) ≡ 
     core = core-of-view t k b
 
     -- the words of its work
-    work-words-are : (f : ℕ) → f < 3 → word-of-core t k f ≡ getD (work-words (view-core t k .work)) f 0
+    work-words-are : (f : ℕ) → f < core-first → word-of-core t k f ≡ getD (work-words (view-core t k .work)) f 0
     work-words-are f d =
         subst (λ (u : List ℕ). word-of-core u k f ≡ getD (work-words (view-core t k .work)) f 0) packed
         (work-word s k inside f d ∙ ap (λ (x : Core). getD (work-words (x .work)) f 0) core)
 
     -- the words behind its work
-    queue-words-are : (f : ℕ) → f < 13 → word-of-core t k (3 + f) ≡ getD (queue-words (view-core t k)) f 0
+    queue-words-are : (f : ℕ) → f < core-stride - core-first → word-of-core t k (core-first + f) ≡ getD (queue-words (view-core t k)) f 0
     queue-words-are f d =
-        subst (λ (u : List ℕ). word-of-core u k (3 + f) ≡ getD (queue-words (view-core t k)) f 0) packed
+        subst (λ (u : List ℕ). word-of-core u k (core-first + f) ≡ getD (queue-words (view-core t k)) f 0) packed
         (queue-word s k inside f d ∙ ap (λ (x : Core). getD (queue-words x) f 0) core)
 
     -- its words that belong to no queue
@@ -146,17 +148,19 @@ module _ (t : List ℕ) (good : T (valid (view t))) (packed : pack (view t) ≡ 
         record {
           work = (
             subst (λ (x : Core). T (valid-work w (x .work))) core (v .cores k inside .work),
-            words-block (word-of-core t k) 0 3 (work-words (view-core t k .work)) (length-work-words (view-core t k .work))
+            words-block (word-of-core t k) 0 core-first (work-words (view-core t k .work)) (length-work-words (view-core t k .work))
                 (λ i d. ap (word-of-core t k) (zero-add i) ∙ work-words-are i d),
           );
           dispatch = subst (λ (x : Core). x .dispatch ≤ 32) core (v .cores k inside .dispatch);
-          mark = sym (queue-words-are 4 (lit< tt));
+          mark = sym (queue-words-are (core-mark - core-first) (lit< tt));
           unused = λ f d.
               let x = view-core t k in
               let l = first (x .active) ∷ last (x .active) ∷ length (x .active) ∷ x .dispatch ∷ bit (x .mark) ∷ first (heads (x .run-queue))
               ∷ last (heads (x .run-queue)) ∷ [] in
-              let place : core-at k 10 + f ≡ core-at k (3 + (7 + f)) = omega arith in
-              ap (word t) place ∙ queue-words-are (7 + f) (omega arith) ∙ second-part l (replicate 6 0) 7 f refl ∙ getD-replicate 6 f 0 0 d;
+              let behind = core-spare - core-first in
+              let place : core-at k core-spare + f ≡ core-at k (core-first + (behind + f)) = omega arith in
+              ap (word t) place ∙ queue-words-are (behind + f) (omega arith) ∙ second-part l (spare core-stride core-spare) behind f refl
+              ∙ getD-replicate (core-stride - core-spare) f 0 0 d;
         }
 
     -- its queues are linked
@@ -179,14 +183,14 @@ module _ (t : List ℕ) (good : T (valid (view t))) (packed : pack (view t) ≡ 
     heads-eq = ap (λ (x : Core). heads (x .run-queue)) core ∙ heads-are t some k
 
     -- they are linked, too
-    heads-linked : Linked (batch-behind t) (word-of-core t k 8) (heads-of t k)
+    heads-linked : Linked (batch-behind t) (word-of-core t k core-first-head) (heads-of t k)
     heads-linked =
         let a = heads-among s v k inside in
         let l = heads (core-of s k .run-queue) in
         let from-first : Linked (batch-behind t) (first l) l =
         linked-back (length (s .processes)) (batch-behind t) l a
-        (λ p m. let r = a .range p m in links p (r .0) (r .1) 3 (lit< tt) ∙ batch-follows s v k inside p m) in
-        let at-first : first (heads-of t k) ≡ word-of-core t k 8 = chain-first (batch-behind t) (N-of t) (word-of-core t k 8) some in
+        (λ p m. let r = a .range p m in links p (r .0) (r .1) (process-next-head - process-next) (lit< tt) ∙ batch-follows s v k inside p m) in
+        let at-first : first (heads-of t k) ≡ word-of-core t k core-first-head = chain-first (batch-behind t) (N-of t) (word-of-core t k core-first-head) some in
         subst (λ (n : ℕ). Linked (batch-behind t) n (heads-of t k)) at-first
         (subst (λ (m : List ℕ). Linked (batch-behind t) (first m) m) heads-eq from-first)
 
@@ -207,8 +211,8 @@ module _ (t : List ℕ) (good : T (valid (view t))) (packed : pack (view t) ≡ 
           high = subst (λ (n : ℕ). p ≤ n) (processes-of-view t) (r .1);
           queue = record {
             linked = read-linked p (getD batches i []) e (queue-linked (suc i) (omega arith));
-            last-is = links p (r .0) (r .1) 1 (lit< tt) ∙ keeps last ∙ sym (last-from-zero batch);
-            size-is = ap (word t) (omega arith) ∙ links p (r .0) (r .1) 2 (lit< tt) ∙ keeps length ∙ sym (zero-add (length batch));
+            last-is = links p (r .0) (r .1) (process-last - process-next) (lit< tt) ∙ keeps last ∙ sym (last-from-zero batch);
+            size-is = ap (word t) (omega arith) ∙ links p (r .0) (r .1) (process-size - process-next) (lit< tt) ∙ keeps length ∙ sym (zero-add (length batch));
           };
         }
 
@@ -219,13 +223,13 @@ module _ (t : List ℕ) (good : T (valid (view t))) (packed : pack (view t) ≡ 
         record {
           flat = rw processes-of-view at (means-core-fits w t k flat);
           active = record {
-            linked = read-linked (word-of-core t k 3) (core-of s k .active) (ap (λ (x : Core). x .active) core) (queue-linked 0 (omega arith));
-            last-is = queue-words-are 1 (lit< tt) ∙ sym (last-from-zero (view-core t k .active));
-            size-is = ap (word t) (omega arith) ∙ queue-words-are 2 (lit< tt) ∙ sym (zero-add (length (view-core t k .active)));
+            linked = read-linked (word-of-core t k core-first) (core-of s k .active) (ap (λ (x : Core). x .active) core) (queue-linked 0 (omega arith));
+            last-is = queue-words-are (core-last - core-first) (lit< tt) ∙ sym (last-from-zero (view-core t k .active));
+            size-is = ap (word t) (omega arith) ∙ queue-words-are (core-size - core-first) (lit< tt) ∙ sym (zero-add (length (view-core t k .active)));
           };
           batches = record {
             linked = heads-linked;
-            last-is = queue-words-are 6 (lit< tt) ∙ ap last (heads-are t some k) ∙ sym (last-from-zero (heads-of t k));
+            last-is = queue-words-are (core-last-head - core-first) (lit< tt) ∙ ap last (heads-are t some k) ∙ sym (last-from-zero (heads-of t k));
             each = batch-here;
           };
         }
@@ -272,6 +276,21 @@ module _ (t : List ℕ) (good : T (valid (view t))) (packed : pack (view t) ≡ 
         ap f (sym process) ∙ words-block (word-of-process (pack s) p) a n (f (process-of s p)) size e
         ∙ ap (λ (u : List ℕ). tabulate (word-of-process u p) a n) packed
 
+    -- its unused words are 0
+    spare-here : (f : ℕ) → f < process-stride - process-spare → word t (process-at (K-of t) p process-spare + f) ≡ 0
+    unfolding process-words
+    spare-here f c =
+        let unused = spare process-stride process-spare in
+        let x = process-of s p in
+        let behind : ℕ = process-progress + (progress-size + (links-size + f)) in
+        let place : process-at (K-of t) p process-spare + f ≡ process-at (K-of t) p behind = omega arith in
+        let packed-here = subst (λ (u : List ℕ). getD u (process-at (w .K) p behind) 0 ≡ getD (process-words s p) behind 0) packed
+        (pack-holds s .process p behind l exists (omega arith)) in
+        ap (word t) place ∙ (rw cores-of-view at packed-here)
+        ∙ second-part (state-words x) (progress-words (x .progress) ++ (link-words s p ++ unused)) process-progress (progress-size + (links-size + f)) refl
+        ∙ second-part (progress-words (x .progress)) (link-words s p ++ unused) progress-size (links-size + f) (length-progress-words (x .progress))
+        ∙ second-part (link-words s p) unused links-size f refl ∙ getD-replicate (process-stride - process-spare) f 0 0 c
+
     -- its own words are those of a valid process
     process-here : FlatProcess t p
     process-here =
@@ -281,29 +300,30 @@ module _ (t : List ℕ) (good : T (valid (view t))) (packed : pack (view t) ≡ 
           count = subst (λ (x : Process). x .alternation .count ≤ 9) process (valid-here .count);
           progress = subst (λ (x : Process). T (valid-progress w p (x .progress))) process (valid-here .in-hand);
           places = subst (λ (x : Process). T (fits (x .place) (x .progress))) process (valid-here .fitting);
-          state = read-is state-words 0 6 refl (λ i c. ap (word-of-process (pack s) p) (zero-add i) ∙ state-word s p l exists i c);
-          words = read-is (λ x. progress-words (x .progress)) 6 14 (length-progress-words x) (progress-word s p l exists);
+          state = read-is state-words 0 process-progress refl (λ i c. ap (word-of-process (pack s) p) (zero-add i) ∙ state-word s p l exists i c);
+          words = read-is (λ x. progress-words (x .progress)) process-progress progress-size (length-progress-words x) (progress-word s p l exists);
+          unused = spare-here;
         }
 
     -- it has no links that it should not have
     no-links : NoLinks t (K-of t) p (in-queues s p) (heads-in s p)
     no-links = record { next = λ e. links p l exists 0 (lit< tt) ∙ no-next s p e; batch = no-batch }
       where
-        no-batch : heads-in s p ≡ 0 → (f : ℕ) → f < 3 → word t (process-at (K-of t) p 21 + f) ≡ 0
+        no-batch : heads-in s p ≡ 0 → (f : ℕ) → f < links-size - 1 → word t (process-at (K-of t) p process-last + f) ≡ 0
         no-batch e f c =
             let behind = head-link last s p ∷ head-link length s p ∷ batch-link s p ∷ [] in
-            let none : behind ≡ replicate 3 0 = cc (no-head-link s p last e, no-head-link s p length e, no-batch-link s p e) in
-            let place : process-at (K-of t) p 21 + f ≡ process-at (K-of t) p (20 + (1 + f)) = omega arith in
+            let none : behind ≡ replicate (links-size - 1) 0 = cc (no-head-link s p last e, no-head-link s p length e, no-batch-link s p e) in
+            let place : process-at (K-of t) p process-last + f ≡ process-at (K-of t) p (process-next + (1 + f)) = omega arith in
             ap (word t) place ∙ links p l exists (1 + f) (omega arith) ∙ second-part (next-link s p ∷ []) behind 1 f refl
-            ∙ ap (λ (m : List ℕ). getD m f 0) none ∙ getD-replicate 3 f 0 0 c
+            ∙ ap (λ (m : List ℕ). getD m f 0) none ∙ getD-replicate (links-size - 1) f 0 0 c
 
     -- what was met of it fits
-    meeting-here : T (meeting-fits t (K-of t) p (word-of-process t p 0) (total (load p) (s .cores)))
+    meeting-here : T (meeting-fits t (K-of t) p (word-of-process t p process-place) (total (load p) (s .cores)))
     unfolding view-process
     meeting-here =
         let y = view-process t p .place in
         let state = process-here .state in
-        let place : word-of-process t p 0 ≡ place-number y = cc in
+        let place : word-of-process t p process-place ≡ place-number y = cc in
         let stands-here : T (stands (on-cores s p) (in-queues s p) y) =
         subst (λ (x : Process). T (stands (on-cores s p) (in-queues s p) (x .place))) process (v .processes p l exists .standing) in
         rw (place, load-is)

@@ -6,8 +6,8 @@ use mathlib.Core.List.{List, [], _∷_}
 use native.Mathlib.Omega.{arith}
 use native.Mathlib.Nat.{add-zero}
 use lib.Dec.{T, eqb, leb, eqb→eq, leb→le, le→leb, eqb-refl}
-use lib.ListN.{length, getD}
-use Rattle.rules.specs.Lists.{within, all, from, bit, times}
+use lib.ListN.{length, getD, replicate}
+use Rattle.rules.specs.Lists.{within, all, tabulate, from, bit, times}
 use Rattle.rules.proofs.Tests.{both, five, together}
 use Rattle.rules.proofs.Sums.{head-stands}
 use Rattle.fitting.specs.Twin.{word, zeros}
@@ -61,6 +61,13 @@ zeros-hold t a zero e = tt
 zeros-hold t a (suc n) e =
     together (eqb (word t a) 0) (zeros t (suc a) n) (equal-holds (word t a) 0 (ap (word t) (sym (add-zero a)) ∙ e 0 (omega arith)))
     (zeros-hold t (suc a) n (λ i b. ap (word t) (omega arith) ∙ e (suc i) (omega arith)))
+
+-- a block of zeros
+pub zero-block : (f : ℕ → ℕ) (a n : ℕ) → ((i : ℕ) → i < n → f (a + i) ≡ 0) → replicate n 0 ≡ tabulate f a n
+zero-block f a zero e = refl
+zero-block f a (suc n) e =
+    let here : f a ≡ 0 = ap f (sym (add-zero a)) ∙ e 0 (omega arith) in
+    let behind : replicate n 0 ≡ tabulate f (suc a) n = zero-block f (suc a) n (λ i b. ap f (omega arith) ∙ e (suc i) (omega arith)) in cc
 
 -- a number that is 0 or 1 is that of a test
 pub bit-means : (n : ℕ) → T (leb n 1) → bit (eqb n 1) ≡ n

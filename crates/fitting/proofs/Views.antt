@@ -7,6 +7,7 @@ use native.Mathlib.Omega.{arith}
 use native.Mathlib.Nat.{add-zero, zero-add}
 use lib.Dec.{eqb}
 use lib.ListN.{length, take, length-map, List·getD-map}
+use Rattle.rules.specs.Layout.{channel-writer, channel-reader}
 use Rattle.rules.specs.Lists.{within, nth, tabulate}
 use Rattle.rules.specs.State.{Way, sending, receiving, Channel, State, wiring, at-end, end-of}
 use Rattle.rules.specs.Items.{no-core, no-process, no-channel, core-of, process-of, channel-of}
@@ -76,8 +77,8 @@ module _ (t : List ℕ) where
 
   -- the word of a channel that has the process at an end
   abbrev pub end-place : Way → ℕ
-  end-place sending = 0
-  end-place receiving = 1
+  end-place sending = channel-writer
+  end-place receiving = channel-reader
 
   -- the process at an end of a channel
   end-at : (way : Way) (c : ℕ) → 1 ≤ c → c ≤ M-of t → end-of (wiring (view t)) way c ≡ word-of-channel t c (end-place way)

@@ -9,7 +9,7 @@ use lib.Dec.{T, eqb, eqb→eq, eqb·suc-zero}
 use lib.ListN.{length, set}
 use borrow.Author.Tests.{eqb-true}
 use Rattle.rules.specs.Lists.{if_then_else_, within, total, bit, times}
-use Rattle.rules.specs.Layout.{process-at}
+use Rattle.rules.specs.Layout.{process-at, core-last-head, process-next, process-last, process-next-head}
 use Rattle.rules.specs.Packing.{K-of, N-of, word-of-core, word-of-process, chain}
 use Rattle.rules.proofs.Tests.{both, three, together, within-means}
 use Rattle.rules.proofs.Sums.{head-stands}
@@ -76,7 +76,7 @@ module _ (t : List ℕ) where
 
   -- who follows p in its queue
   abbrev pub next-of : ℕ → ℕ
-  next-of p = word-of-process t p 20
+  next-of p = word-of-process t p process-next
 
   module _ (a : ℕ) where
     -- the queue from p on, at most n long, is one whose last and size stand at the words a and a + 1, and c counts nobody of it
@@ -169,17 +169,17 @@ module _ (t : List ℕ) where
 
   -- the head of the batch that follows that of h
   abbrev pub batch-behind : ℕ → ℕ
-  batch-behind h = word-of-process t h 23
+  batch-behind h = word-of-process t h process-next-head
 
   -- the batch that h heads
   abbrev pub batch-of : ℕ → List ℕ
   batch-of h = chain next-of N h
 
-  -- the batch of a head: its last and its size stand in the head's words 21 and 22
+  -- the batch of a head: its last and its size stand in the head's record
   pub record Batch (h : ℕ) : Type 0 where
     pub low : 1 ≤ h
     pub high : h ≤ N
-    pub queue : Queue next-of (word-of-process t h 21) (word t (process-at K h 21 + 1)) h 0 0 (batch-of h)
+    pub queue : Queue next-of (word-of-process t h process-last) (word t (process-at K h process-last + 1)) h 0 0 (batch-of h)
 
   -- the heads of a core's batches, the last of them counted on from the one given
   pub record Heads (at-last head prev : ℕ) (l : List ℕ) : Type 0 where
@@ -191,7 +191,7 @@ module _ (t : List ℕ) where
     -- the heads from this one on, at most n, are those of batches that c counts nobody of
     abbrev pub HeadsFrom : ℕ → (ℕ → ℕ) → ℕ → ℕ → Type 0
     HeadsFrom n c head prev =
-        let l = chain batch-behind n head in Heads (word-of-core t k 9) head prev l × Apart N c (λ q. total (times q) (map batch-of l))
+        let l = chain batch-behind n head in Heads (word-of-core t k core-last-head) head prev l × Apart N c (λ q. total (times q) (map batch-of l))
 
     -- then these batches are met, with the number 3 for each head
     abbrev pub MetHeads : ℕ → (ℕ → ℕ) → ℕ → List ℕ → Type 0
@@ -199,20 +199,20 @@ module _ (t : List ℕ) where
 
     -- the end of the batches is found exactly
     heads-end-exact : (met : List ℕ) (c : ℕ → ℕ) (head prev : ℕ) → Met N c met
-        → Exact (HeadsFrom 0 c head prev) (MetHeads 0 c head) (if eqb head 0 && eqb (word-of-core t k 9) prev then well met else flaw)
+        → Exact (HeadsFrom 0 c head prev) (MetHeads 0 c head) (if eqb head 0 && eqb (word-of-core t k core-last-head) prev then well met else flaw)
     heads-end-exact met c head prev agrees =
-        exact-if (HeadsFrom 0 c head prev) (MetHeads 0 c head) (eqb head 0 && eqb (word-of-core t k 9) prev) (well met) need rest
+        exact-if (HeadsFrom 0 c head prev) (MetHeads 0 c head) (eqb head 0 && eqb (word-of-core t k core-last-head) prev) (well met) need rest
       where
-        need : HeadsFrom 0 c head prev → T (eqb head 0 && eqb (word-of-core t k 9) prev)
+        need : HeadsFrom 0 c head prev → T (eqb head 0 && eqb (word-of-core t k core-last-head) prev)
         need h =
-            together (eqb head 0) (eqb (word-of-core t k 9) prev) (equal-holds head 0 (h .0 .linked))
-            (equal-holds (word-of-core t k 9) prev (h .0 .last-is))
+            together (eqb head 0) (eqb (word-of-core t k core-last-head) prev) (equal-holds head 0 (h .0 .linked))
+            (equal-holds (word-of-core t k core-last-head) prev (h .0 .last-is))
 
-        rest : T (eqb head 0 && eqb (word-of-core t k 9) prev) → HeadsFrom 0 c head prev × MetHeads 0 c head met
+        rest : T (eqb head 0 && eqb (word-of-core t k core-last-head) prev) → HeadsFrom 0 c head prev × MetHeads 0 c head met
         rest h =
-            let r = both (eqb head 0) (eqb (word-of-core t k 9) prev) h in (
+            let r = both (eqb head 0) (eqb (word-of-core t k core-last-head) prev) h in (
               (
-                record { linked = eqb→eq head 0 (r .0); last-is = eqb→eq (word-of-core t k 9) prev (r .1); each = λ q b. absurd (omega arith) },
+                record { linked = eqb→eq head 0 (r .0); last-is = eqb→eq (word-of-core t k core-last-head) prev (r .1); each = λ q b. absurd (omega arith) },
                 λ q b. absurd (omega arith),
               ),
               met-as N c _ met (λ q. omega arith) agrees,
@@ -235,7 +235,7 @@ module _ (t : List ℕ) where
         head = suc h
 
         a : ℕ
-        a = process-at K head 21
+        a = process-at K head process-last
 
         rest-walk : List ℕ → Walk
         rest-walk m = batch-walk t K N k n (set m head 3) (batch-behind head) head

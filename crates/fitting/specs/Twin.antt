@@ -7,7 +7,7 @@ use mathlib.Core.List.{List}
 use lib.Dec.{eqb, leb}
 use lib.ListN.{length, getD, set, replicate}
 use Rattle.rules.specs.Lists.{if_then_else_, within}
-use Rattle.rules.specs.Layout.{room, core-at, process-at, channel-at}
+use Rattle.rules.specs.Layout.{header-size, core-stride, process-stride, core-at, process-at, channel-at, room, header-cores, header-processes, header-channels, header-spare, core-runs, core-task, core-task-process, core-first, core-last, core-dispatch, core-mark, core-first-head, core-last-head, core-spare, process-place, process-enabling, process-not-ready, process-waiting, process-count, process-progress, process-channel, process-partner, process-guards, process-index, process-first-ready, process-first-guard, process-next, process-last, process-next-head, process-spare, guard-places, links-size, channel-writer, channel-reader, channel-holder, place-running, place-queued, place-asleep, place-ended, task-none, task-wake, at-nothing, at-send-look, at-send-copy, at-send-wake, at-receive-look, at-receive-copy, at-receive-wake, at-enable-look, at-ready-from-place, at-disable, at-lower, at-finish, due-sent, due-got, due-chose}
 use Rattle.rules.specs.SetUp.{sizes}
 
 abbrev pub word : List ℕ → ℕ → ℕ
@@ -21,19 +21,24 @@ zeros t a (suc n) = eqb (word t a) 0 && zeros t (suc a) n
 -- Header: sizes in their limits, unused words 0, and the length that they ask for.
 abbrev pub header-fits : List ℕ → Bool
 header-fits t =
-    leb 8 (length t) && sizes (word t 0) (word t 1) (word t 2) && eqb (length t) (room (word t 0) (word t 1) (word t 2)) && zeros t 3 5
+    let w = word t in
+    leb header-size (length t) && sizes (w header-cores) (w header-processes) (w header-channels)
+    && eqb (length t) (room (w header-cores) (w header-processes) (w header-channels)) && zeros t header-spare (header-size - header-spare)
 
 -- Below: K, N and M are the header's.
 
 -- A core's words that belong to no queue: running process, task only where nothing runs, dispatch count, mark, unused words.
 abbrev pub task-fits : ℕ → ℕ → ℕ → Bool
-task-fits N task q = if eqb task 0 then eqb q 0 else (leb task 2 && within 1 N q)
+task-fits N task q = if eqb task task-none then eqb q 0 else (leb task task-wake && within 1 N q)
+
+abbrev pub work-fits : ℕ → ℕ → ℕ → ℕ → Bool
+work-fits N running task q = if eqb running 0 then task-fits N task q else (leb running N && eqb task task-none && eqb q 0)
 
 abbrev pub core-fits : List ℕ → ℕ → ℕ → Bool
 core-fits t N k =
-    (if eqb (word t (core-at k 0)) 0 then task-fits N (word t (core-at k 1)) (word t (core-at k 2))
-    else (leb (word t (core-at k 0)) N && eqb (word t (core-at k 1)) 0 && eqb (word t (core-at k 2)) 0))
-    && leb (word t (core-at k 6)) 32 && leb (word t (core-at k 7)) 1 && zeros t (core-at k 10) 6
+    let w : ℕ → ℕ = λ f. word t (core-at k f) in
+    work-fits N (w core-runs) (w core-task) (w core-task-process)
+    && leb (w core-dispatch) 32 && leb (w core-mark) 1 && zeros t (core-at k core-spare) (core-stride - core-spare)
 
 -- What was met so far, a number for each process: 0 not met, 1 running, 2 in a queue, 3 the head of a batch. (Word 0 is not used.)
 abbrev pub fresh : ℕ → List ℕ → ℕ → Bool
@@ -51,7 +56,7 @@ and-then (well met) f = f met
 -- the running process of a core is met first
 abbrev pub meet-running : List ℕ → ℕ → ℕ → List ℕ → Walk
 meet-running t N k met =
-    let p = word t (core-at k 0) in
+    let p = word t (core-at k core-runs) in
     if eqb p 0 then well met else if fresh N met p then well (set met p 1) else flaw
 
 -- One queue, process by process from p on, each not met before: at its end, the last one and the size are those that stand at the
@@ -60,17 +65,17 @@ abbrev pub chain-walk : List ℕ → ℕ → ℕ → ℕ → ℕ → List ℕ �
 chain-walk t K N a zero met p last size = if eqb p 0 && eqb (word t a) last && eqb (word t (a + 1)) size then well met else flaw
 chain-walk t K N a (suc n) met p last size =
     if eqb p 0 then (if eqb (word t a) last && eqb (word t (a + 1)) size then well met else flaw)
-    else if fresh N met p then chain-walk t K N a n (set met p 2) (word t (process-at K p 20)) p (size + 1)
+    else if fresh N met p then chain-walk t K N a n (set met p 2) (word t (process-at K p process-next)) p (size + 1)
     else flaw
 
--- The batches from head on; prev is the head before. The last head is that of the core's word 9. At most n more batches.
+-- The batches from head on; prev is the head before. The last head is the one that the core has. At most n more batches.
 abbrev pub batch-walk : List ℕ → ℕ → ℕ → ℕ → ℕ → List ℕ → ℕ → ℕ → Walk
-batch-walk t K N k zero met head prev = if eqb head 0 && eqb (word t (core-at k 9)) prev then well met else flaw
+batch-walk t K N k zero met head prev = if eqb head 0 && eqb (word t (core-at k core-last-head)) prev then well met else flaw
 batch-walk t K N k (suc n) met head prev =
-    if eqb head 0 then (if eqb (word t (core-at k 9)) prev then well met else flaw)
+    if eqb head 0 then (if eqb (word t (core-at k core-last-head)) prev then well met else flaw)
     else if within 1 N head
-    then and-then (chain-walk t K N (process-at K head 21) N met head 0 0)
-    (λ met. batch-walk t K N k n (set met head 3) (word t (process-at K head 23)) head)
+    then and-then (chain-walk t K N (process-at K head process-last) N met head 0 0)
+    (λ met. batch-walk t K N k n (set met head 3) (word t (process-at K head process-next-head)) head)
     else flaw
 
 -- A core: its own words, its running process, its active queue, its batches.
@@ -78,8 +83,8 @@ abbrev pub core-walk : List ℕ → ℕ → ℕ → ℕ → List ℕ → Walk
 core-walk t K N k met =
     if core-fits t N k
     then and-then (meet-running t N k met)
-    (λ met. and-then (chain-walk t K N (core-at k 4) N met (word t (core-at k 3)) 0 0)
-    (λ met. batch-walk t K N k N met (word t (core-at k 8)) 0))
+    (λ met. and-then (chain-walk t K N (core-at k core-last) N met (word t (core-at k core-first)) 0 0)
+    (λ met. batch-walk t K N k N met (word t (core-at k core-first-head)) 0))
     else flaw
 
 -- the cores from k on, n of them
@@ -90,24 +95,24 @@ cores-walk t K N k (suc n) met = and-then (core-walk t K N k met) (λ met. cores
 -- A process's progress, by its number n: which of its words mean something.
 
 abbrev pub is-sender : ℕ → Bool
-is-sender n = within 1 5 n || eqb n 21
+is-sender n = within at-send-look at-send-wake n || eqb n due-sent
 
 abbrev pub is-receiver : ℕ → Bool
-is-receiver n = within 6 10 n || within 22 23 n
+is-receiver n = within at-receive-look at-receive-wake n || within due-got due-chose n
 
 abbrev pub has-partner : ℕ → Bool
-has-partner n = within 3 5 n || within 8 10 n
+has-partner n = within at-send-copy at-send-wake n || within at-receive-copy at-receive-wake n
 
 abbrev pub has-guards : ℕ → Bool
-has-guards n = within 11 19 n
+has-guards n = within at-enable-look at-finish n
 
 abbrev pub has-index : ℕ → Bool
-has-index n = within 11 15 n || within 17 18 n
+has-index n = within at-enable-look at-ready-from-place n || within at-disable at-lower n
 
 abbrev pub has-ready : ℕ → Bool
-has-ready n = within 17 19 n
+has-ready n = within at-disable at-finish n
 
--- process p stands at the end f (0 writer, 1 reader) of channel c
+-- process p stands at the end f (writer or reader) of channel c
 abbrev pub end-fits : List ℕ → ℕ → ℕ → ℕ → ℕ → ℕ → ℕ → Bool
 end-fits t K N M p f c = within 1 M c && eqb (word t (channel-at K N c f)) p
 
@@ -119,56 +124,81 @@ stands-among t x a (suc n) = eqb (word t a) x || stands-among t x (suc a) n
 -- the n guards from the word a on: each one's own, none twice
 abbrev pub guards-fit : List ℕ → ℕ → ℕ → ℕ → ℕ → ℕ → ℕ → Bool
 guards-fit t K N M p a zero = true
-guards-fit t K N M p a (suc n) = end-fits t K N M p 1 (word t a) && (if stands-among t (word t a) (suc a) n then false else true) && guards-fit t K N M p (suc a) n
+guards-fit t K N M p a (suc n) = end-fits t K N M p channel-reader (word t a) && (if stands-among t (word t a) (suc a) n then false else true) && guards-fit t K N M p (suc a) n
 
 abbrev pub channel-part : List ℕ → ℕ → ℕ → ℕ → ℕ → ℕ → ℕ → Bool
 channel-part t K N M p n c =
-    if is-sender n then end-fits t K N M p 0 c else if is-receiver n then end-fits t K N M p 1 c else eqb c 0
+    if is-sender n then end-fits t K N M p channel-writer c else if is-receiver n then end-fits t K N M p channel-reader c else eqb c 0
 
--- number of guards g, guards from the word a on, index i, first ready r
+-- the partner, of the number q
+abbrev pub partner-part : ℕ → ℕ → ℕ → Bool
+partner-part N n q = if has-partner n then within 1 N q else eqb q 0
+
+-- g guards from the word a on, 1 to 8, and zeros behind them
+abbrev pub guards-stand : List ℕ → ℕ → ℕ → ℕ → ℕ → ℕ → ℕ → Bool
+guards-stand t K N M p g a = within 1 8 g && guards-fit t K N M p a g && zeros t (a + g) (guard-places - g)
+
 abbrev pub guards-part : List ℕ → ℕ → ℕ → ℕ → ℕ → ℕ → ℕ → ℕ → Bool
-guards-part t K N M p n g a =
-    if has-guards n then (within 1 8 g && guards-fit t K N M p a g && zeros t (a + g) (8 - g)) else (eqb g 0 && zeros t a 8)
+guards-part t K N M p n g a = if has-guards n then guards-stand t K N M p g a else (eqb g 0 && zeros t a guard-places)
+
+-- the guard index i, and the first ready guard r, among g guards
+abbrev pub index-part : ℕ → ℕ → ℕ → Bool
+index-part n g i = if has-index n then within 1 g i else eqb i 0
+
+abbrev pub ready-part : ℕ → ℕ → ℕ → Bool
+ready-part n g r = if has-ready n then leb r g else eqb r 0
 
 abbrev pub progress-fits : List ℕ → ℕ → ℕ → ℕ → ℕ → Bool
 progress-fits t K N M p =
     let w : ℕ → ℕ = λ f. word t (process-at K p f) in
-    leb (w 6) 23
-    && channel-part t K N M p (w 6) (w 7)
-    && (if has-partner (w 6) then within 1 N (w 8) else eqb (w 8) 0)
-    && guards-part t K N M p (w 6) (w 9) (process-at K p 12)
-    && (if has-index (w 6) then within 1 (w 9) (w 10) else eqb (w 10) 0)
-    && (if has-ready (w 6) then leb (w 11) (w 9) else eqb (w 11) 0)
+    let n = w process-progress in
+    leb n due-chose
+    && channel-part t K N M p n (w process-channel)
+    && partner-part N n (w process-partner)
+    && guards-part t K N M p n (w process-guards) (process-at K p process-first-guard)
+    && index-part n (w process-guards) (w process-index)
+    && ready-part n (w process-guards) (w process-first-ready)
 
 -- "A running process has nothing in hand or a stage; a queued or sleeping one has a stage or an outcome; an ended one has nothing in hand."
 abbrev pub place-fits : ℕ → ℕ → Bool
 place-fits place n =
-    if eqb place 1 then leb n 19 else if eqb place 4 then eqb n 0 else (within 2 3 place && leb 1 n)
+    if eqb place place-running then leb n at-finish
+    else if eqb place place-ended then eqb n at-nothing
+    else (within place-queued place-asleep place && leb at-send-look n)
 
 -- what was met agrees with the place, and who is in no queue has no links, who heads no batch none of a batch's
 abbrev pub meeting-fits : List ℕ → ℕ → ℕ → ℕ → ℕ → Bool
 meeting-fits t K p place m =
-    if eqb m 0 then (leb 3 place && zeros t (process-at K p 20) 4)
-    else if eqb m 1 then (eqb place 1 && zeros t (process-at K p 20) 4)
-    else if eqb m 2 then (eqb place 2 && zeros t (process-at K p 21) 3)
-    else eqb place 2
+    let unlinked = zeros t (process-at K p process-next) links-size in
+    if eqb m 0 then (leb place-asleep place && unlinked)
+    else if eqb m 1 then (eqb place place-running && unlinked)
+    else if eqb m 2 then (eqb place place-queued && zeros t (process-at K p process-last) (links-size - 1))
+    else eqb place place-queued
 
-abbrev pub process-fits : List ℕ → ℕ → ℕ → ℕ → List ℕ → ℕ → Bool
-process-fits t K N M met p =
+-- flags 0 or 1, count 0 to 9, unused words 0
+abbrev pub flags-fit : List ℕ → ℕ → ℕ → Bool
+flags-fit t K p =
     let w : ℕ → ℕ = λ f. word t (process-at K p f) in
-    leb (w 2) 1 && leb (w 3) 1 && leb (w 4) 1 && leb (w 5) 9
-    && place-fits (w 0) (w 6) && meeting-fits t K p (w 0) (getD met p 0) && progress-fits t K N M p
+    leb (w process-enabling) 1 && leb (w process-not-ready) 1 && leb (w process-waiting) 1 && leb (w process-count) 9
+    && zeros t (process-at K p process-spare) (process-stride - process-spare)
+
+-- a process of which m was met
+abbrev pub process-fits : List ℕ → ℕ → ℕ → ℕ → ℕ → ℕ → Bool
+process-fits t K N M p m =
+    let place = word t (process-at K p process-place) in
+    flags-fit t K p && place-fits place (word t (process-at K p process-progress)) && meeting-fits t K p place m && progress-fits t K N M p
 
 -- the processes from p on, n of them
 abbrev pub processes-fit : List ℕ → ℕ → ℕ → ℕ → List ℕ → ℕ → ℕ → Bool
 processes-fit t K N M met p zero = true
-processes-fit t K N M met p (suc n) = process-fits t K N M met p && processes-fit t K N M met (suc p) n
+processes-fit t K N M met p (suc n) = process-fits t K N M p (getD met p 0) && processes-fit t K N M met (suc p) n
 
 -- A channel: its ends, which differ, and its word: nobody, or a process's name.
 abbrev pub channel-fits : List ℕ → ℕ → ℕ → ℕ → Bool
 channel-fits t K N c =
     let w : ℕ → ℕ = λ f. word t (channel-at K N c f) in
-    within 1 N (w 0) && within 1 N (w 1) && (if eqb (w 0) (w 1) then false else true) && (eqb (w 2) 0 || within 1 N (w 2 / 2))
+    within 1 N (w channel-writer) && within 1 N (w channel-reader) && (if eqb (w channel-writer) (w channel-reader) then false else true)
+    && (eqb (w channel-holder) 0 || within 1 N (w channel-holder / 2))
 
 -- the channels from c on, n of them
 abbrev pub channels-fit : List ℕ → ℕ → ℕ → ℕ → ℕ → Bool
@@ -182,6 +212,6 @@ rest-fits t K N M (well met) = processes-fit t K N M met 1 N && channels-fit t K
 
 unfoldable pub table-fits : List ℕ → Bool
 table-fits t =
-    if header-fits t
-    then rest-fits t (word t 0) (word t 1) (word t 2) (cores-walk t (word t 0) (word t 1) 0 (word t 0) (replicate 257 0))
-    else false
+    let K = word t header-cores in
+    let N = word t header-processes in
+    if header-fits t then rest-fits t K N (word t header-channels) (cores-walk t K N 0 K (replicate 257 0)) else false

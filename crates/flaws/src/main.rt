@@ -33,7 +33,7 @@ fn is_sound(table: &[u32], length: usize, edits: &[u32]) -> bool {
     let mut t = script::zeros();
     script::copy(table, &mut t);
     write_edits(&mut t, edits);
-    soundness::table_fits(script::part(&t, 0, length))
+    soundness::sound(script::part(&t, 0, length))
 }
 
 fn write_verdict(name: &[u8], sound: bool) {

@@ -22,7 +22,7 @@ fn refused_first(table: &[u32], answer: &[u32], core: u32) -> u32
     if answer.len() != 3 {
         return answers::ANSWER;
     }
-    if !soundness::table_fits(table) {
+    if !soundness::sound(table) {
         return answers::DAMAGED;
     }
     if core < table[0] {

@@ -1,9 +1,5 @@
-pub mod Tests
-pub mod Runs
-pub mod Zeros
-pub mod ByNumber
-pub mod Fails
-pub mod Sizes
-pub mod Unmet
-pub mod Walks
-pub mod Rest
+mod Sizes
+mod Unmet
+mod Walks
+mod Outcomes
+mod Left

@@ -10,7 +10,7 @@ use lib.ListN.{length, getD, set}
 use lib.Seq.{getD-set-same, getD-set-other}
 use borrow.Author.Tests.{eqb-true, eqb-false}
 use Rattle.rules.specs.Lists.{bit}
-use Rattle.soundness.proofs.Tests.{decide}
+use Rattle.records.proofs.Tests.{decide}
 
 -- whether p was not met, as a number
 abbrev pub one : List ℕ → ℕ → ℕ

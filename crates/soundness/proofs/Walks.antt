@@ -9,11 +9,10 @@ use lib.Dec.{eqb}
 use lib.ListN.{length, set, length-set}
 use borrow.Author.Tests.{eqb-true}
 use Rattle.rules.specs.Lists.{within}
-use Rattle.rules.specs.Layout.{core-at, process-at}
+use Rattle.rules.specs.Layout.{core-at, process-at, room, core-last-head, process-next, process-last, process-next-head}
 use Rattle.fitting.specs.Twin.{word, fresh, Walk, flaw, well, and-then, chain-walk, batch-walk}
-use Rattle.soundness.specs.Queues.{stand-at}
-use Rattle.soundness.specs.Parts.{outcome}
-use Rattle.soundness.proofs.Tests.{decide, first-true, second-true, within-true}
+use Rattle.soundness.specs.Parts.{stand-at, outcome}
+use Rattle.records.proofs.Tests.{decide, first-true, second-true, within-true}
 use Rattle.soundness.proofs.Unmet.{unmet, unmet-marked, unmet-met}
 
 pub then-same : (w : Walk) (f g : List ℕ → Walk) → ((met : List ℕ) → w ≡ well met → f met ≡ g met) → and-then w f ≡ and-then w g
@@ -57,7 +56,7 @@ module _ (t : List ℕ) (K N : ℕ) where
     chain-stale (suc n) met p last size e f = rw (e, f)
 
     chain-meets : (n : ℕ) (met : List ℕ) (p last size : ℕ) → eqb p 0 ≡ false → fresh N met p ≡ true
-        → chain (suc n) met p last size ≡ chain n (set met p 2) (word t (process-at K p 20)) p (size + 1)
+        → chain (suc n) met p last size ≡ chain n (set met p 2) (word t (process-at K p process-next)) p (size + 1)
     chain-meets n met p last size e f = rw (e, f)
 
     -- two walks from one place agree if they do where somebody is met anew
@@ -78,15 +77,15 @@ module _ (t : List ℕ) (K N : ℕ) where
         chain-same (suc n) (suc (suc n)) met p last size
         (λ e f.
         let more =
-        chain-more n (set met p 2) (word t (process-at K p 20)) p (size + 1) (simp length-set room) (omega (arith, met-anew met p 2 room refl f)) in
+        chain-more n (set met p 2) (word t (process-at K p process-next)) p (size + 1) (simp length-set room) (omega (arith, met-anew met p 2 room refl f)) in
         chain-meets n met p last size e f ∙ more ∙ sym (chain-meets (suc n) met p last size e f))
 
     pub chain-step : (n : ℕ) (met : List ℕ) (p last size : ℕ) → N < length met → unmet N met ≤ n → eqb p 0 ≡ false → fresh N met p ≡ true
-        → chain n met p last size ≡ chain n (set met p 2) (word t (process-at K p 20)) p (size + 1)
+        → chain n met p last size ≡ chain n (set met p 2) (word t (process-at K p process-next)) p (size + 1)
     chain-step zero met p last size room l e f = absurd (omega (arith, met-anew met p 2 room refl f))
     chain-step (suc n) met p last size room l e f =
         chain-meets n met p last size e f
-        ∙ chain-more n (set met p 2) (word t (process-at K p 20)) p (size + 1) (simp length-set room) (omega (arith, met-anew met p 2 room refl f))
+        ∙ chain-more n (set met p 2) (word t (process-at K p process-next)) p (size + 1) (simp length-set room) (omega (arith, met-anew met p 2 room refl f))
 
     at-end : (n : ℕ) (met : List ℕ) (p last size : ℕ) (after : List ℕ) → chain n met p last size ≡ well after → eqb p 0 ≡ true → Kept N met after
     at-end n met p last size after w e = kept-all N met after (left-well (stand-at t a last size) met after (sym (chain-end n met p last size e) ∙ w))
@@ -100,7 +99,7 @@ module _ (t : List ℕ) (K N : ℕ) where
         (λ e. ⊎-elim
         (λ f.
         let rest =
-        chain-kept n (set met p 2) (word t (process-at K p 20)) p (size + 1) after (simp length-set room) (sym (chain-meets n met p last size e f) ∙ w) in
+        chain-kept n (set met p 2) (word t (process-at K p process-next)) p (size + 1) after (simp length-set room) (sym (chain-meets n met p last size e f) ∙ w) in
         record { long = rest .long ∙ length-set met p 2; fewer = omega (arith, met-anew met p 2 room refl f) })
         (λ f. absurd (no-flaw after (sym (chain-stale (suc n) met p last size e f) ∙ w)))
         (decide (fresh N met p)))
@@ -112,7 +111,7 @@ module _ (t : List ℕ) (K N : ℕ) where
     chain-less zero met p last size after room f e w = absurd (no-flaw after (rw e at w))
     chain-less (suc n) met p last size after room f e w =
         let rest =
-        chain-kept n (set met p 2) (word t (process-at K p 20)) p (size + 1) after (simp length-set room) (sym (chain-meets n met p last size e f) ∙ w) in
+        chain-kept n (set met p 2) (word t (process-at K p process-next)) p (size + 1) after (simp length-set room) (sym (chain-meets n met p last size e f) ∙ w) in
         (rest .long ∙ length-set met p 2, omega (arith, met-anew met p 2 room refl f))
 
   -- the batches of core k
@@ -120,7 +119,7 @@ module _ (t : List ℕ) (K N : ℕ) where
     abbrev pub batches : ℕ → List ℕ → ℕ → ℕ → Walk
     batches = batch-walk t K N k
 
-    pub batch-end : (n : ℕ) (met : List ℕ) (head prev : ℕ) → eqb head 0 ≡ true → batches n met head prev ≡ outcome (eqb (word t (core-at k 9)) prev) met
+    pub batch-end : (n : ℕ) (met : List ℕ) (head prev : ℕ) → eqb head 0 ≡ true → batches n met head prev ≡ outcome (eqb (word t (core-at k core-last-head)) prev) met
     batch-end zero met head prev e = rw e
     batch-end (suc n) met head prev e = rw e
 
@@ -131,14 +130,14 @@ module _ (t : List ℕ) (K N : ℕ) where
     -- a batch, then the rest with n more
     abbrev pub batch-then : ℕ → List ℕ → ℕ → Walk
     batch-then n met head =
-        and-then (chain-walk t K N (process-at K head 21) N met head 0 0) (λ met. batches n (set met head 3) (word t (process-at K head 23)) head)
+        and-then (chain-walk t K N (process-at K head process-last) N met head 0 0) (λ met. batches n (set met head 3) (word t (process-at K head process-next-head)) head)
 
     batch-walks : (n : ℕ) (met : List ℕ) (head prev : ℕ) → eqb head 0 ≡ false → within 1 N head ≡ true → batches (suc n) met head prev ≡ batch-then n met head
     batch-walks n met head prev e i = rw (e, i)
 
     stale-then : (n : ℕ) (met : List ℕ) (head : ℕ) → eqb head 0 ≡ false → fresh N met head ≡ false → batch-then n met head ≡ flaw
     stale-then n met head e f =
-        ap (λ w. and-then w (λ met. batches n (set met head 3) (word t (process-at K head 23)) head)) (chain-stale (process-at K head 21) N met head 0 0 e f)
+        ap (λ w. and-then w (λ met. batches n (set met head 3) (word t (process-at K head process-next-head)) head)) (chain-stale (process-at K head process-last) N met head 0 0 e f)
 
     batch-stale : (n : ℕ) (met : List ℕ) (head prev : ℕ) → eqb head 0 ≡ false → fresh N met head ≡ false → batches n met head prev ≡ flaw
     batch-stale zero met head prev e f = rw e
@@ -159,10 +158,10 @@ module _ (t : List ℕ) (K N : ℕ) where
 
     -- after a batch there are fewer to meet
     after-batch : (met : List ℕ) (head : ℕ) (after : List ℕ) → N < length met → eqb head 0 ≡ false → fresh N met head ≡ true
-        → chain-walk t K N (process-at K head 21) N met head 0 0 ≡ well after
+        → chain-walk t K N (process-at K head process-last) N met head 0 0 ≡ well after
         → (N < length (set after head 3)) × (unmet N (set after head 3) < unmet N met)
     after-batch met head after room e f w =
-        let less = chain-less (process-at K head 21) N met head 0 0 after room f e w in
+        let less = chain-less (process-at K head process-last) N met head 0 0 after room f e w in
         let inside = within-true 1 N head (first-true (within 1 N head) _ f) in
         let marked = unmet-marked after head 3 (omega arith) refl N in
         (simp length-set (omega arith), omega arith)

@@ -1,64 +1,41 @@
 -- Parts of the check's definition by name, as the functions of the code take them.
-use Prim.Native.Nat.{ℕ, _+_, _-_}
+use Prim.Native.Nat.{ℕ, _+_}
 use mathlib.Core.Bool.{Bool, _&&_}
 use mathlib.Core.List.{List}
 use lib.Dec.{eqb, leb}
-use lib.ListN.{replicate}
-use Rattle.rules.specs.Lists.{if_then_else_, within}
-use Rattle.rules.specs.Layout.{process-at}
-use Rattle.fitting.specs.Twin.{
-  word,
-  zeros,
-  channel-part,
-  guards-fit,
-  task-fits,
-  core-fits,
-  Walk,
-  flaw,
-  well,
-  meet-running,
-  cores-walk,
-  has-partner,
-  has-index,
-  has-ready,
-  rest-fits,
-}
+use lib.ListN.{set, replicate}
+use Rattle.rules.specs.Lists.{if_then_else_}
+use Rattle.rules.specs.Layout.{core-at, process-at, core-first, core-last, core-first-head, core-last-head, process-last, process-next-head}
+use Rattle.fitting.specs.Twin.{word, core-fits, Walk, flaw, well, meet-running, cores-walk, rest-fits}
 
--- a core's running process and task
-abbrev pub work-fits : ℕ → ℕ → ℕ → ℕ → Bool
-work-fits N running task q = if eqb running 0 then task-fits N task q else (leb running N && eqb task 0 && eqb q 0)
+-- The queues of a core under one name each: 0 is the active queue, otherwise the batch with this head.
 
--- a process's flags and count
-abbrev pub flags-fit : List ℕ → ℕ → ℕ → Bool
-flags-fit t K p =
-    let w : ℕ → ℕ = λ f. word t (process-at K p f) in
-    leb (w 2) 1 && leb (w 3) 1 && leb (w 4) 1 && leb (w 5) 9
+abbrev pub first-of : List ℕ → ℕ → ℕ → ℕ
+first-of t k queue = if eqb queue 0 then word t (core-at k core-first) else queue
 
--- a progress's partner, guard index and first ready guard
-abbrev pub partner-part : ℕ → ℕ → ℕ → Bool
-partner-part N n q = if has-partner n then within 1 N q else eqb q 0
+-- where the last process stands; the size stands next to it
+abbrev pub ends-at : ℕ → ℕ → ℕ → ℕ
+ends-at K k queue = if eqb queue 0 then core-at k core-last else process-at K queue process-last
 
-abbrev pub index-part : ℕ → ℕ → ℕ → Bool
-index-part n g i = if has-index n then within 1 g i else eqb i 0
+-- a queue's last process and its size stand at the word a and the one after
+abbrev pub stand-at : List ℕ → ℕ → ℕ → ℕ → Bool
+stand-at t a last size = eqb (word t a) last && eqb (word t (a + 1)) size
 
-abbrev pub ready-part : ℕ → ℕ → ℕ → Bool
-ready-part n g r = if has-ready n then leb r g else eqb r 0
+abbrev pub next-head : List ℕ → ℕ → ℕ → ℕ → ℕ
+next-head t K k queue = if eqb queue 0 then word t (core-at k core-first-head) else word t (process-at K queue process-next-head)
 
--- a progress without guards, of the number n: its channel and partner, and zeros behind them
-abbrev pub exchange-fits : List ℕ → ℕ → ℕ → ℕ → ℕ → ℕ → Bool
-exchange-fits t K N M p n =
-    let w : ℕ → ℕ = λ f. word t (process-at K p f) in
-    leb n 23 && channel-part t K N M p n (w 7) && partner-part N n (w 8) && zeros t (process-at K p 9) 11
+-- what follows a queue: another batch, or nothing, and then the core's last head is this one
+abbrev pub next-fits : List ℕ → ℕ → ℕ → ℕ → ℕ → Bool
+next-fits t N k queue next = if eqb next 0 then eqb (word t (core-at k core-last-head)) queue else leb next N
 
--- g guards from the word a on, 1 to 8, and zeros behind them
-abbrev pub guards-stand : List ℕ → ℕ → ℕ → ℕ → ℕ → ℕ → ℕ → Bool
-guards-stand t K N M p g a = within 1 8 g && guards-fit t K N M p a g && zeros t (a + g) (8 - g)
+abbrev pub queue-ends : List ℕ → ℕ → ℕ → ℕ → ℕ → ℕ → ℕ → Bool
+queue-ends t K N k queue last size = stand-at t (ends-at K k queue) last size && next-fits t N k queue (next-head t K k queue)
 
--- one with guards: no channel and no partner; its guards and zeros behind them, its guard index, its first ready guard
-abbrev pub choice-fits : List ℕ → ℕ → ℕ → ℕ → ℕ → ℕ → Bool
-choice-fits t K N M p n =
-    let w : ℕ → ℕ = λ f. word t (process-at K p f) in
-    eqb (w 7) 0 && eqb (w 8) 0 && guards-stand t K N M p (w 9) (process-at K p 12) && index-part n (w 9) (w 10) && ready-part n (w 9) (w 11)
+-- the head of a batch is marked once the batch was met
+abbrev pub marked : List ℕ → ℕ → List ℕ
+marked met queue = if eqb queue 0 then met else set met queue 3
+
+-- The check
 
 -- whether all is well so far, and what was met
 abbrev pub outcome : Bool → List ℕ → Walk

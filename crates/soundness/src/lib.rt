@@ -3,42 +3,40 @@ ghost use mathlib.Core.Path.{_≡_};
 ghost use Prim.Native.Nat.{_≤_};
 ghost use lib.ListN.{length};
 ghost use Rattle.rules.specs.Layout.{room};
-ghost use Rattle.fitting.specs.Twin.{well, rest-fits, table-fits};
+ghost use Rattle.rules.specs.Soundness.{sound};
 ghost use Rattle.soundness.specs.Parts.{parts-fit};
 
-mod channels; // the channels
-mod cores; // a core's own words, and its queues
-mod header; // the header
 mod meetings; // who was met in the queues
-mod processes; // the processes
-mod progress; // a process's progress
-mod read; // the words of a table
+mod queues; // where a core's queues begin and end
+mod rest; // the processes and the channels
 
-use channels::channels_fit;
-use cores::first_of;
-use cores::next_head;
-use cores::queue_ends;
-use header::header_fits;
 use meetings::enter_core;
 use meetings::mark_head;
 use meetings::meet;
-use processes::processes_fit;
-use read::process_word;
-use read::word;
+use queues::first_of;
+use queues::next_head;
+use queues::queue_ends;
+use records::header::header_fits;
+use records::read::word;
+use rest::rest_fits;
+use table::process_word;
 
-// A table is sound exactly when it fits.
-pub fn table_fits(t: &[u32]) -> bool
-    ensures { λ r. ⌜ r ≡ table-fits (now (t .entry)) ⌝ }
+// Whether a table is sound.
+pub fn sound(t: &[u32]) -> bool
+    ensures { λ r. ⌜ r ≡ sound (now (t .entry)) ⌝ }
 {
     if !header_fits(t) {
         return false;
     }
-    parts_fit(t, word(t, 0), word(t, 1), word(t, 2))
+    let cores = word(t, layout::HEADER_CORES) as usize;
+    let processes = word(t, layout::HEADER_PROCESSES);
+    let channels = word(t, layout::HEADER_CHANNELS);
+    parts_fit(t, cores, processes, channels)
 }
 
 // Core by core, queue by queue (the active one is 0, a batch goes by its head), process by process: each is met once.
-fn parts_fit(t: &[u32], cores: usize, processes: usize, channels: usize) -> bool
-    requires { ⌜ (length (now t) ≡ room cores processes channels) × (1 ≤ processes) × (processes ≤ 256) ⌝ }
+fn parts_fit(t: &[u32], cores: usize, processes: u32, channels: u32) -> bool
+    requires { ⌜ (length (now t) ≡ room cores processes channels) × (1 ≤ processes) × (processes ≤ 256) × (channels ≤ 256) ⌝ }
     ensures { λ r. ⌜ r ≡ parts-fit (now (t .entry)) cores processes channels ⌝ }
 {
     let mut met = [0u32; 257];
@@ -61,7 +59,7 @@ fn parts_fit(t: &[u32], cores: usize, processes: usize, channels: usize) -> bool
                 }
                 last = p;
                 size += 1;
-                p = process_word(t, cores, p, 20);
+                p = process_word(t, cores, p, layout::PROCESS_NEXT);
             }
             if !queue_ends(t, cores, processes, k, queue, last, size) {
                 break 'check;
@@ -75,12 +73,4 @@ fn parts_fit(t: &[u32], cores: usize, processes: usize, channels: usize) -> bool
         k += 1;
     }
     false
-}
-
-// The processes, each against what was met of it, and the channels.
-fn rest_fits(t: &[u32], cores: usize, processes: usize, channels: usize, met: &[u32; 257]) -> bool
-    requires { ⌜ (length (now t) ≡ room cores processes channels) × (processes ≤ 256) ⌝ }
-    ensures { λ r. ⌜ r ≡ rest-fits (now (t .entry)) cores processes channels (well (now (met .entry))) ⌝ }
-{
-    processes_fit(t, cores, processes, channels, met) && channels_fit(t, cores, processes, channels)
 }

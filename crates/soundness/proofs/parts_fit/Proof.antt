@@ -9,11 +9,12 @@ use lib.Dec.{eqb}
 use lib.ListN.{set, length-set}
 use Rattle.rules.specs.Lists.{bit}
 use Rattle.fitting.specs.Twin.{fresh}
-use Rattle.soundness.specs.Queues.{next-head, queue-ends}
-use Rattle.soundness.proofs.Tests.{all-well, not-well, refused, accepted, within-true, first-true}
+use Rattle.soundness.specs.Parts.{next-head, queue-ends}
+use Rattle.records.proofs.Tests.{refused, accepted, within-true, first-true}
+use Rattle.soundness.proofs.Outcomes.{all-well, not-well}
 use Rattle.soundness.proofs.Unmet.{unmet, unmet-le}
 use Rattle.soundness.proofs.Walks.{met-anew}
-use Rattle.soundness.proofs.Rest.{
+use Rattle.soundness.proofs.Left.{
   AtCore,
   AtQueue,
   AtProcess,

@@ -2,7 +2,8 @@
 use borrow.Author.Needs.{needs}
 use borrow.Author.Tests.{eq-eqb, ne-eqb}
 use mathlib.Core.Path.{sym, _∙_}
-use Rattle.soundness.proofs.Tests.{refused, accepted, told}
+use Rattle.records.proofs.Tests.{refused, accepted}
+use Rattle.soundness.proofs.Outcomes.{told}
 use Rattle.soundness.proofs.meetings.enter_core.Statement.{statement}
 use Rattle.soundness.proofs.meetings.enter_core.Tie as tie
 

@@ -5,7 +5,7 @@ use Prim.Native.Nat.{_≤_}
 use mathlib.Core.Path.{_≡_, refl}
 use native.Mathlib.Omega.{arith}
 use lib.ListN.{getD}
-use Rattle.soundness.proofs.Tests.{refused, accepted, within-true}
+use Rattle.records.proofs.Tests.{refused, accepted, within-true}
 use Rattle.soundness.proofs.meetings.meet.Statement.{statement}
 use Rattle.soundness.proofs.meetings.meet.Tie as tie
 
