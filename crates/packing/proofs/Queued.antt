@@ -10,20 +10,7 @@ use lib.Seq.{getD-set-same, getD-set-other}
 use borrow.Author.Tests.{eqb-true, eqb-false}
 use Rattle.rules.specs.Lists.{within, all, total, from, bit, times}
 use Rattle.rules.specs.State.{Core, queues-of, State, wiring}
-use Rattle.rules.specs.Items.{
-  Kind,
-  core,
-  place,
-  data-word,
-  alternation,
-  progress,
-  channel-word,
-  transfers,
-  Val,
-  no-core,
-  core-of,
-  put,
-}
+use Rattle.rules.specs.Items.{Region, Record, no-core, core-of, with-record, Kind, core, region, Val, put}
 use Rattle.rules.specs.SetUp.{sizes}
 use Rattle.rules.specs.Soundness.{in-queues, valid-process, valid-work, not-empty, valid-core, valid-channel, valid}
 use Rattle.packing.specs.Queues.{with-queues, Queued}
@@ -85,25 +72,20 @@ queued-same s s′ e e′ h =
       once = subst₂ (λ (l : List Core) (n : ℕ). (p : ℕ) → 1 ≤ p → p ≤ n → total (times-in p) l ≤ 1) e e′ (h .once);
     }
 
--- any kind of item but a core
-abbrev not-core : Kind → Bool
-not-core core = false
-not-core place = true
-not-core data-word = true
-not-core alternation = true
-not-core progress = true
-not-core channel-word = true
-not-core transfers = true
+-- a process or a channel, and no core
+abbrev no-queues : Region → Bool
+no-queues Region.cores = false
+no-queues Region.processes = true
+no-queues Region.channels = true
 
 -- Every item but a core leaves the queues in order.
-pub queued-put : (x : Kind) (i : ℕ) (v : Val x) (s : State) → T (not-core x) → Queued s → Queued (put x i v s)
-queued-put core i v s other h = absurd other
-queued-put place i v s other h = queued-same s _ refl (ap (λ (d : Dims). d .N) (sym (dims-put place i v s))) h
-queued-put data-word i v s other h = queued-same s _ refl (ap (λ (d : Dims). d .N) (sym (dims-put data-word i v s))) h
-queued-put alternation i v s other h = queued-same s _ refl (ap (λ (d : Dims). d .N) (sym (dims-put alternation i v s))) h
-queued-put progress i v s other h = queued-same s _ refl (ap (λ (d : Dims). d .N) (sym (dims-put progress i v s))) h
-queued-put channel-word i v s other h = queued-same s _ refl (ap (λ (d : Dims). d .N) (sym (dims-put channel-word i v s))) h
-queued-put transfers i v s other h = queued-same s _ refl (ap (λ (d : Dims). d .N) (sym (dims-put transfers i v s))) h
+pub queued-put : (x : Kind) (i : ℕ) (v : Val x) (s : State) → T (no-queues (region x)) → Queued s → Queued (put x i v s)
+queued-put x i v s other h = queued-same s _ (by-region (region x) _ other) (ap (λ (d : Dims). d .N) (sym (dims-put x i v s))) h
+  where
+    by-region : (g : Region) (r : Record g) → T (no-queues g) → s .cores ≡ with-record g i r s .cores
+    by-region Region.cores r none = absurd none
+    by-region Region.processes r _ = refl
+    by-region Region.channels r _ = refl
 
 -- Queues
 

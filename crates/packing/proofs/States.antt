@@ -5,7 +5,7 @@ use mathlib.Core.List.{List, _∷_}
 use lib.ListN.{length, length-set}
 use Rattle.rules.specs.Lists.{set-nth}
 use Rattle.rules.specs.State.{Process, Core, Channel, State}
-use Rattle.rules.specs.Items.{Kind, core, place, data-word, alternation, progress, channel-word, transfers, Val, put}
+use Rattle.rules.specs.Items.{Region, cores, processes, channels, Record, record-of, with-record, Kind, core, region, Val, with-field, put}
 use Rattle.rules.specs.Layout.{header-size, header-spare}
 use Rattle.rules.specs.Packing.{spare, header-words, pack}
 use Rattle.rules.proofs.Packing.Regions.{Dims, Words, Holds, Same, held-once}
@@ -35,13 +35,12 @@ dims-channel c r s = ap (λ (n : ℕ). record { K = length (s .cores); N = lengt
 
 -- so there are after any item was put
 pub dims-put : (x : Kind) (i : ℕ) (v : Val x) (s : State) → dims (put x i v s) ≡ dims s
-dims-put core i v s = dims-core i v s
-dims-put place i v s = dims-process i _ s
-dims-put data-word i v s = dims-process i _ s
-dims-put alternation i v s = dims-process i _ s
-dims-put progress i v s = dims-process i _ s
-dims-put channel-word i v s = dims-channel i _ s
-dims-put transfers i v s = dims-channel i _ s
+dims-put x i v s = by-region (region x) (with-field x v (record-of (region x) s i))
+  where
+    by-region : (g : Region) (r : Record g) → dims (with-record g i r s) ≡ dims s
+    by-region cores r = dims-core i r s
+    by-region processes r = dims-process i r s
+    by-region channels r = dims-channel i r s
 
 -- a table that holds the words of a state is its packing
 pub packed : (s s′ : State) (w : Words) (t : List ℕ) → dims s′ ≡ dims s → Holds (dims s) w t → Same (dims s) w (words-of s′) → t ≡ pack s′

@@ -7,7 +7,7 @@ use native.Mathlib.Omega.{arith}
 use lib.Dec.{T, lit<}
 use lib.ListN.{length, getD, set, length-set, replicate}
 use Rattle.rules.specs.State.{Place, asleep, Alternation, Progress, nothing, Process, Task, free, ChannelWord, State, wiring}
-use Rattle.rules.specs.Items.{Kind, core, place, data-word, alternation, progress, channel-word, transfers, Val, core-of, process-of, channel-of, put}
+use Rattle.rules.specs.Items.{Kind, core, place, data-word, alternation, progress, channel-word, transfers, Kind-discrete, Val, core-of, process-of, channel-of, put}
 use Rattle.rules.specs.Layout.{core-stride, process-stride, channel-stride, core-at, process-at, channel-at, core-runs, core-task, core-task-process, core-first, process-place, process-data, process-enabling, process-progress, progress-size, channel-holder, channel-transfers}
 use Rattle.rules.specs.Packing.{pack, view, place-number, word-number, word-numbered, work-words, progress-words}
 use Rattle.rules.specs.Steps.{with-work}
@@ -52,13 +52,7 @@ still-process s p q r is = (is .0, subst (λ (n : ℕ). p ≤ n) (sym (length-se
 
 -- a change of another item leaves each process's progress
 abbrev other : Kind → Bool
-other core = true
-other place = true
-other data-word = true
-other alternation = true
-other progress = false
-other channel-word = true
-other transfers = true
+other x = elim (Kind-discrete x progress) [ yes same ↦ false | no different ↦ true ]
 
 pub progress-kept : (x : Kind) → T (other x) → (n : ℕ) (v : Val x) (s : State) (p : ℕ)
     → process-of (put x n v s) p .progress ≡ process-of s p .progress
