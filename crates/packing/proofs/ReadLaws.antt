@@ -75,7 +75,7 @@ process-listed s p =
     process-split s p
     ∙ ap (λ (l : List ℕ). state-words r ++ l ++ rest-words s p) (listed-same (progress-words (r .progress)) progress-size (length-progress-words (r .progress)))
 
--- a channel's
+-- A channel's words
 abbrev pub channel-list : Channel → List ℕ
 channel-list c = c .ends .writer ∷ c .ends .reader ∷ word-number (c .word) ∷ c .transfers ∷ spare channel-stride channel-spare
 
@@ -96,7 +96,7 @@ pub read-channel : (s : State) (c f : ℕ) → 1 ≤ c → c ≤ length (s .chan
 unfolding channel-words
 read-channel s c f l h b = pack-holds s .channel c f l h b
 
--- the word j of its progress, also where j is no literal
+-- the word j of the progress of process p, also where j is no literal
 pub read-progress : (s : State) (p : ℕ) → 1 ≤ p → p ≤ length (s .processes) → (j : ℕ) → j < progress-size
     → getD (pack s) (process-at (length (s .cores)) p (process-progress + j)) 0 ≡ getD (progress-words (process-of s p .progress)) j 0
 read-progress s p low high j b =

@@ -9,7 +9,7 @@ use lib.ListN.{length, getD, take}
 use Rattle.rules.specs.Lists.{total, from, member, first, last, follows}
 use Rattle.rules.specs.State.{Progress, Core, queues-of, State, wiring}
 use Rattle.rules.specs.Items.{core-of, process-of}
-use Rattle.rules.specs.Layout.{header-size, core-stride, header-spare, core-task, core-task-process, core-first, core-last, core-size, core-first-head, core-last-head, core-spare, process-progress, process-channel, process-partner, process-guards, process-index, process-first-ready, process-first-guard, process-next, process-last, process-size, process-next-head, process-spare, progress-size, guard-places}
+use Rattle.rules.specs.Layout.{header-size, core-stride, header-spare, core-task, core-task-process, core-first, core-last, core-size, core-first-head, core-last-head, core-spare, process-progress, process-channel, process-partner, process-guards, process-index, process-first-ready, process-first-guard, process-next, process-last, process-size, process-next-head, process-spare, guard-places}
 use Rattle.rules.specs.Packing.{Carried, bare, channel-only, channel-partner, guards-only, guards-index, guards-index-ready, guards-ready, packed-as, carried-words, work-words, heads, padded, ready-number, of-channel, of-choice, progress-words, next-link, if-head, head-link, batch-link, header-words, pack, word-of-core, word-of-process}
 use Rattle.rules.specs.UsedWords.{guards-used, used-by, used-words}
 use Rattle.rules.specs.Soundness.{is-process, in-queues}
@@ -44,10 +44,20 @@ unused-of-core s k b =
           let e : core-first + (f - core-first) ≡ f = omega arith in
           rw (← e) (queues (f - core-first) (omega arith)
           ∙ behind (take (core-spare - core-first) (queue-words c)) (core-stride - core-spare) (f - core-first) (omega arith));
-      task = λ p e. (work core-task (lit< tt) ∙ ap (λ w. getD (work-words w) core-task 0) e, work core-task-process (lit< tt) ∙ ap (λ w. getD (work-words w) core-task-process 0) e);
+      task = λ p e. (
+        work core-task (lit< tt) ∙ ap (λ w. getD (work-words w) core-task 0) e,
+        work core-task-process (lit< tt) ∙ ap (λ w. getD (work-words w) core-task-process 0) e,
+      );
       task-process = λ e. work core-task-process (lit< tt) ∙ ap (λ w. getD (work-words w) core-task-process 0) e;
-      active = λ e. (queues 0 (lit< tt) ∙ ap first e, queues (core-last - core-first) (lit< tt) ∙ ap last e, queues (core-size - core-first) (lit< tt) ∙ ap length e);
-      run-queue = λ e. (queues (core-first-head - core-first) (lit< tt) ∙ ap (λ l. first (heads l)) e, queues (core-last-head - core-first) (lit< tt) ∙ ap (λ l. last (heads l)) e);
+      active = λ e. (
+        queues 0 (lit< tt) ∙ ap first e,
+        queues (core-last - core-first) (lit< tt) ∙ ap last e,
+        queues (core-size - core-first) (lit< tt) ∙ ap length e,
+      );
+      run-queue = λ e. (
+        queues (core-first-head - core-first) (lit< tt) ∙ ap (λ l. first (heads l)) e,
+        queues (core-last-head - core-first) (lit< tt) ∙ ap (λ l. last (heads l)) e,
+      );
     }
 
 -- A progress: its words have one of two shapes
@@ -66,7 +76,7 @@ channel-unused : (used : List ℕ) (number c q : ℕ) → ZeroUnless used proces
 channel-unused used number c q channel partner zero l h = absurd (omega arith)
 channel-unused used number c q channel partner (suc zero) l h = channel h
 channel-unused used number c q channel partner (suc (suc zero)) l h = partner h
-channel-unused used number c q channel partner (suc (suc (suc i))) l h = zeros (progress-size - 3) i
+channel-unused used number c q channel partner (suc (suc (suc i))) l h = zeros (process-next - process-guards) i
 
 -- a guard's word, of those from a on, behind as many as there are guards
 guard-unused : (a n : ℕ) (gs : List ℕ) (i : ℕ) → ZeroUnless (from a (length gs)) (a + i) (getD (padded n gs) i 0)

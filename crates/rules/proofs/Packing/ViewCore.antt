@@ -60,14 +60,16 @@ module _ (s : State) (v : Valid s) (k : ℕ) (b : k < length (s .cores)) where
   work-read : let w = word-of-core (pack s) k in work-numbered (w core-runs) (w core-task) (w core-task-process) ≡ core-of s k .work
   work-read =
       let x = core-of s k .work in
-      cc (work-word s k b core-runs (lit< tt), work-word s k b core-task (lit< tt), work-word s k b core-task-process (lit< tt), work-back (wiring s) x (v .cores k b .work))
+      let at = work-word s k b in
+      cc (at core-runs (lit< tt), at core-task (lit< tt), at core-task-process (lit< tt), work-back (wiring s) x (v .cores k b .work))
 
   -- a queue is read back from its first process
   queue-read : (i : ℕ) → i < length (queues-of (core-of s k)) → chain (link-of s 0) (N-of (pack s)) (first (queue-of s k i)) ≡ queue-of s k i
   queue-read i c = list-back s 0 (lit< tt) (queue-of s k i) (queue-among s v k b i c) (next-follows s v k b i c)
 
   -- the run queue is read back from the first head: the heads, and of each its batch
-  run-queue-read : map (chain (link-of s 0) (N-of (pack s))) (chain (link-of s to-head) (N-of (pack s)) (word-of-core (pack s) k core-first-head)) ≡ core-of s k .run-queue
+  run-queue-read : map (chain (link-of s 0) (N-of (pack s))) (chain (link-of s to-head) (N-of (pack s)) (word-of-core (pack s) k core-first-head))
+      ≡ core-of s k .run-queue
   run-queue-read =
       let queue = chain (link-of s 0) (N-of (pack s)) in
       let batches = core-of s k .run-queue in
