@@ -8,7 +8,36 @@ ghost use Rattle.answers.specs.Four.{four};
 ghost use Rattle.table.specs.Has.{HasProcess};
 ghost use Rattle.guards.specs.Read.{word-of, guard-place, guard-at, guard-word-at, AtGuard};
 ghost use Rattle.guards.specs.Read.{stage-table, next-table};
+ghost use Rattle.rules.specs.Choice.{lowered, raised};
+ghost use Rattle.guards.specs.Change.{changes};
 use answers::Reply;
+
+// A count that is to change: that is a fault, or it becomes another.
+pub enum Change {
+    Fault,
+    To(u32),
+}
+
+// A count - 1.
+pub fn lowered(count: u32) -> Change
+    ensures { λ r. ⌜ changes r ≡ lowered count ⌝ }
+{
+    if count == 0 {
+        return Change::Fault;
+    }
+    Change::To(count - 1)
+}
+
+// A count + 1.
+pub fn raised(count: u32) -> Change
+    requires { ⌜ count ≤ 9 ⌝ }
+    ensures { λ r. ⌜ changes r ≡ raised count ⌝ }
+{
+    if count == 9 {
+        return Change::Fault;
+    }
+    Change::To(count + 1)
+}
 
 // The guard at index i, counted from 1.
 pub fn guard(t: &[u32], cores: usize, p: u32, i: u32) -> u32
