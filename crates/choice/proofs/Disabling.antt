@@ -17,7 +17,7 @@ use Rattle.rules.specs.Rule.{Rule, run, becomes, _>>_}
 use Rattle.rules.specs.Steps.{next}
 use Rattle.rules.specs.Choice.{guard, counting, flags, waits, wait-step, disable-next, keep-first, disabled, disable-step, lower-step, lowered}
 use Rattle.rules.specs.Layout.{process-at, channel-at, at-disable, at-finish, at-lower, at-wait, channel-holder, process-count}
-use Rattle.rules.specs.Layout.{process-enabling, process-first-ready, process-index, process-not-ready, process-progress, process-waiting}
+use Rattle.rules.specs.Layout.{process-enabling, process-first-ready, process-not-ready, process-progress, process-waiting}
 use Rattle.rules.specs.Layout.{task-none}
 use Rattle.rules.specs.Packing.{ready-number, progress-words, pack, view, word-numbered}
 use Rattle.words.specs.Meaning.{meaning}
@@ -32,7 +32,7 @@ use Rattle.parts.proofs.Packs.{IsProcess, still-process, process-read, asleep-w
 use Rattle.parts.proofs.Flags.{clear-flag, set-flag}
 use Rattle.guards.specs.declared.Change.the-variants.{Fault, To}
 use Rattle.guards.specs.Change.{changes}
-use Rattle.guards.specs.Read.{word-of, count-at, guard-word-at, AtGuard, stage-table, next-table, flags-table, kept-table}
+use Rattle.guards.specs.Read.{word-of, index-at, count-at, counted-table, guard-word-at, AtGuard, stage-table, next-table, flags-table, kept-table}
 use Rattle.guards.proofs.Guards.{in-alternation, Chooses, at-chooses, index-reads, ready-reads, same-guard, other-guard, next-packs}
 use Rattle.guards.proofs.Guards.{alternation-chooses, ready-chooses, word-chooses}
 use Rattle.guards.proofs.Rules.{kept-number, by-count}
@@ -91,11 +91,14 @@ module _ {t : List ℕ} {cores processes k p : ℕ} {gs : List ℕ} where
         )
 
     -- none is. The word read is n, the tables on the way are v and w.
-    pub wait-asleep : {r : Reply} {u v w : List ℕ} {n : ℕ} → n ≡ word-of t cores p process-not-ready → (n ≡ 0 → ⊥) → v ≡ flags-table t cores p 0 0 1
-        → w ≡ stage-table v cores p 1 at-disable → r ≡ four (yes-with (SLEPT p)) → u ≡ asleep-table w cores k p task-none 0 → Does (wait-step k p gs) t r u
+    pub wait-asleep : {r : Reply} {u v w : List ℕ} {n : ℕ} → n ≡ word-of t cores p process-not-ready → (n ≡ 0 → ⊥)
+        → v ≡ flags-table t cores p 0 0 1 → w ≡ stage-table v cores p 1 at-disable → r ≡ four (yes-with (SLEPT p))
+        → u ≡ asleep-table w cores k p task-none 0 → Does (wait-step k p gs) t r u
     unfolding progress-words
     wait-asleep {r} {u} reads ne first second a b =
-        let put-flags = alternation-chooses wait-chooses (flags false false true waiter) ((in-alternation process-enabling, 0) ∷ (in-alternation process-not-ready, 0) ∷ (in-alternation process-waiting, 1) ∷ []) tt refl in
+        let put-flags =
+        alternation-chooses wait-chooses (flags false false true waiter)
+        ((in-alternation process-enabling, 0) ∷ (in-alternation process-not-ready, 0) ∷ (in-alternation process-waiting, 1) ∷ []) tt refl in
         let waiting : State = put alternation p (flags false false true waiter) (view t) in
         let none-ready : waiter .not-ready ≡ true = set-flag (waiter .not-ready) (λ e. ne (reads ∙ flag-is ∙ e)) in
         subst (λ (y : Bool). Comes (run (waits k p gs waiter y) (view t)) t r u) (sym none-ready) (
@@ -132,7 +135,8 @@ module _ {t : List ℕ} {cores processes k p : ℕ} {gs : List ℕ} where
           → r ≡ four (yes-with MOVED) → u ≡ next-table (kept-table t cores p) cores p at-disable at-finish → Does (disable-step p gs i x) t r u
       unfolding progress-words
       disable-ready finds reads made a b =
-          let kept : (if eqb (word-of t cores p process-first-ready) 0 then word-of t cores p process-index else word-of t cores p process-first-ready) ≡ ready-number (keep-first x i) =
+          let was : ℕ = word-of t cores p process-first-ready in
+          let kept : (if eqb was 0 then index-at t cores p else was) ≡ ready-number (keep-first x i) =
           rw (ready-reads (disable-stands .chooses), index-reads (disable-stands .chooses)) (kept-number gs x i (disable-stands .ready)) in
           by-word finds reads made r u (
             a,
@@ -148,7 +152,9 @@ module _ {t : List ℕ} {cores processes k p : ℕ} {gs : List ℕ} where
           by-word finds reads made r u
           (rw (eq-eqb q p own) (
             a,
-            b ∙ ap (λ (c : ℕ). set (set t (channel-at cores processes c channel-holder) 0) (process-at cores p process-progress) at-lower) (guard-is disable-stands)
+            b
+                ∙ ap (λ (c : ℕ). set (set t (channel-at cores processes c channel-holder) 0) (process-at cores p process-progress) at-lower)
+                (guard-is disable-stands)
                 ∙ same-guard (word-chooses (disable-stands .chooses) (guard gs i) (guard-among disable-stands) nobody) (lower gs i x) at-lower refl,
           ))
 
@@ -173,7 +179,7 @@ module _ {t : List ℕ} {cores processes k p : ℕ} {gs : List ℕ} where
     lower-fault {r} {u} made a b = by-count (lower-stands .chooses .packs) p (lower-stands .chooses .among) lowered lowering Fault made r u (a, b)
 
     pub lower-done : {n : ℕ} {r : Reply} {u : List ℕ} → changes (To n) ≡ lowered (count-at t cores p) → r ≡ four (yes-with MOVED)
-        → u ≡ next-table (set t (process-at cores p process-count) n) cores p at-disable at-finish → Does (lower-step p gs i x) t r u
+        → u ≡ next-table (counted-table t cores p n) cores p at-disable at-finish → Does (lower-step p gs i x) t r u
     lower-done {n} {r} {u} made a b =
         by-count (lower-stands .chooses .packs) p (lower-stands .chooses .among) lowered lowering (To n) made r u (
           a,

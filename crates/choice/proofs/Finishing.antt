@@ -32,7 +32,7 @@ use Rattle.parts.proofs.Flags.{set-flag, unset-flag}
 use Rattle.guards.specs.declared.Change.{Change}
 use Rattle.guards.specs.declared.Change.the-variants.{Fault, To}
 use Rattle.guards.specs.Change.{changes}
-use Rattle.guards.specs.Read.{word-of, count-at, guard-place, triggered-table}
+use Rattle.guards.specs.Read.{word-of, count-at, counted-table, guard-place, triggered-table}
 use Rattle.guards.proofs.Guards.{in-progress, in-alternation, Chooses, at-chooses, ready-reads, guard-reads, alternation-chooses}
 use Rattle.guards.proofs.Rules.{ready-range, first-fault, first-on, by-count}
 
@@ -61,7 +61,8 @@ module _ {t : List ℕ} {cores processes k p : ℕ} {gs : List ℕ} {x : Option 
       (range .0, omega arith)
 
   -- the table has its word
-  pub finish-guard : (word-of t cores p process-first-ready ≡ 0 → ⊥) → process-at cores p (guard-place (word-of t cores p process-first-ready)) < length t
+  pub finish-guard : (word-of t cores p process-first-ready ≡ 0 → ⊥)
+      → process-at cores p (guard-place (word-of t cores p process-first-ready)) < length t
   finish-guard there =
       let process : HasProcess t cores p = runs-process t cores processes k p (finish gs x) at in
       let range = finish-range there in
@@ -69,7 +70,8 @@ module _ {t : List ℕ} {cores processes k p : ℕ} {gs : List ℕ} {x : Option 
       omega arith
 
   -- and that word is the guard
-  chosen : (word-of t cores p process-first-ready ≡ 0 → ⊥) → word-of t cores p (guard-place (word-of t cores p process-first-ready)) ≡ guard gs (ready-number x)
+  chosen : (word-of t cores p process-first-ready ≡ 0 → ⊥)
+      → word-of t cores p (guard-place (word-of t cores p process-first-ready)) ≡ guard gs (ready-number x)
   chosen there =
       let range = finish-range there in
       ap (λ (j : ℕ). word-of t cores p (guard-place j)) (ready-reads finish-chooses)
@@ -111,7 +113,7 @@ module _ {t : List ℕ} {cores processes k p : ℕ} {gs : List ℕ} {x : Option 
     finish-fault {r} {u} made a b = counting-on Fault made r u (a, b)
 
   -- the count is n
-  finish-lowered : (n : ℕ) → Chooses (set t (process-at cores p process-count) n) cores processes (less n) p at-finish gs 0 x
+  finish-lowered : (n : ℕ) → Chooses (counted-table t cores p n) cores processes (less n) p at-finish gs 0 x
   finish-lowered n = alternation-chooses finish-chooses (counting n finisher) ((in-alternation process-count, n) ∷ []) tt refl
 
   -- the first ready guard is read as i, and its channel as c
@@ -124,7 +126,7 @@ module _ {t : List ℕ} {cores processes k p : ℕ} {gs : List ℕ} {x : Option 
     -- to 0: the choice is over
     pub finish-now : {r : Reply} {u : List ℕ} → i ≡ word-of t cores p process-first-ready → (i ≡ 0 → ⊥)
         → changes (To n) ≡ lowered (count-at t cores p) → n ≡ 0 → c ≡ word-of t cores p (guard-place i)
-        → v ≡ set t (process-at cores p process-count) n → r ≡ four (yes-with (CHOSE p c)) → u ≡ cleared v cores p → Does (finish-step k p gs x) t r u
+        → v ≡ counted-table t cores p n → r ≡ four (yes-with (CHOSE p c)) → u ≡ cleared v cores p → Does (finish-step k p gs x) t r u
     finish-now {r} {u} ready there made none-left found first a b =
         counting-on (λ e. there (ready ∙ e)) (To n) made r u
         (subst (λ (m : ℕ). Comes (run (finished k p (guard gs (ready-number x)) m) (less n)) t r u) (sym none-left) (
@@ -135,12 +137,12 @@ module _ {t : List ℕ} {cores processes k p : ℕ} {gs : List ℕ} {x : Option 
     -- above 0: it sleeps
     pub finish-later : {r : Reply} {u w : List ℕ} → i ≡ word-of t cores p process-first-ready → (i ≡ 0 → ⊥)
         → changes (To n) ≡ lowered (count-at t cores p) → (n ≡ 0 → ⊥) → c ≡ word-of t cores p (guard-place i)
-        → v ≡ set t (process-at cores p process-count) n → w ≡ due-table v cores p due-chose c → r ≡ four (yes-with (SLEPT p))
+        → v ≡ counted-table t cores p n → w ≡ due-table v cores p due-chose c → r ≡ four (yes-with (SLEPT p))
         → u ≡ asleep-table w cores k p task-none 0 → Does (finish-step k p gs x) t r u
     finish-later {r} {u} {w} ready there made some-left found first second a b =
         let left : suc (n - 1) ≡ n = omega arith in
         let g : ℕ = guard gs (ready-number x) in
-        let due-there : w ≡ due-table (set t (process-at cores p process-count) n) cores p due-chose g = rw (second, first, chosen-is ready there found) in
+        let due-there : w ≡ due-table (counted-table t cores p n) cores p due-chose g = rw (second, first, chosen-is ready there found) in
         counting-on (λ e. there (ready ∙ e)) (To n) made r u
         (subst (λ (m : ℕ). Comes (run (finished k p g m) (less n)) t r u) left (
           a,

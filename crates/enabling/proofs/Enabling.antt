@@ -22,7 +22,7 @@ use Rattle.parts.specs.Does.{At, Comes, Does}
 use Rattle.parts.proofs.Card.{facts}
 use Rattle.guards.specs.declared.Change.the-variants.{Fault, To}
 use Rattle.guards.specs.Change.{changes}
-use Rattle.guards.specs.Read.{count-at, guard-word-at, AtGuard, next-table, ready-table}
+use Rattle.guards.specs.Read.{count-at, counted-table, guard-word-at, AtGuard, next-table, ready-table}
 use Rattle.guards.proofs.Guards.{in-alternation, Chooses, count-is, same-guard, next-packs, alternation-chooses, word-chooses}
 use Rattle.guards.proofs.Rules.{by-count}
 use Rattle.guards.proofs.Stands.{Stands, enabling-stands, guard-among, guard-is, has-guard, word-is, free-word, number-small}
@@ -89,7 +89,7 @@ module _ {t : List ℕ} {cores processes k p : ℕ} {gs : List ℕ} {i : ℕ} wh
     raise-fault {r} {u} made a b = by-count (raise-stands .chooses .packs) p (raise-stands .chooses .among) raised raising Fault made r u (a, b)
 
     pub raise-done : {n : ℕ} {r : Reply} {u : List ℕ} → changes (To n) ≡ raised (count-at t cores p) → r ≡ four (yes-with MOVED)
-        → u ≡ set (set t (process-at cores p process-count) n) (process-at cores p process-progress) at-place-name → Does (raise-step p gs i) t r u
+        → u ≡ set (counted-table t cores p n) (process-at cores p process-progress) at-place-name → Does (raise-step p gs i) t r u
     unfolding progress-words
     raise-done {n} {r} {u} made a b =
         by-count (raise-stands .chooses .packs) p (raise-stands .chooses .among) raised raising (To n) made r u (
@@ -113,11 +113,14 @@ module _ {t : List ℕ} {cores processes k p : ℕ} {gs : List ℕ} {i : ℕ} wh
 
     -- the word is nobody's
     pub place-free : {r : Reply} {u : List ℕ} → getD t (guard-word-at t cores processes p) 0 ≡ 0 → r ≡ four (yes-with MOVED)
-        → u ≡ next-table (set t (guard-word-at t cores processes p) (word-number (choosing p))) cores p at-enable-look at-wait → Does (place-name-step p gs i) t r u
+        → u ≡ next-table (set t (guard-word-at t cores processes p) (word-number (choosing p))) cores p at-enable-look at-wait
+        → Does (place-name-step p gs i) t r u
     place-free {r} {u} e a b =
         subst (λ (w : ChannelWord). Comes (run (name-placed p gs i w) (view t)) t r u) (sym (free-word place-stands e)) (
           a,
-          b ∙ ap (λ (c : ℕ). next-table (set t (channel-at cores processes c channel-holder) (word-number (choosing p))) cores p at-enable-look at-wait) (guard-is place-stands)
+          b
+              ∙ ap (λ (c : ℕ). next-table (set t (channel-at cores processes c channel-holder) (word-number (choosing p))) cores p at-enable-look at-wait)
+              (guard-is place-stands)
               ∙ enabled-packs (word-chooses (place-stands .chooses) (guard gs i) (guard-among place-stands) (choosing p)),
         )
 
@@ -170,7 +173,7 @@ module _ {t : List ℕ} {cores processes k p : ℕ} {gs : List ℕ} {i : ℕ} wh
         by-count (ready-place-stands .chooses .packs) p (ready-place-stands .chooses .among) lowered readying Fault made r u (a, b)
 
     pub ready-place-done : {n : ℕ} {r : Reply} {u : List ℕ} → changes (To n) ≡ lowered (count-at t cores p) → r ≡ four (yes-with MOVED)
-        → u ≡ ready-table (set t (process-at cores p process-count) n) cores p → Does (ready-from-place-step p gs i) t r u
+        → u ≡ ready-table (counted-table t cores p n) cores p → Does (ready-from-place-step p gs i) t r u
     ready-place-done {n} {r} {u} made a b =
         by-count (ready-place-stands .chooses .packs) p (ready-place-stands .chooses .among) lowered readying (To n) made r u (
           a,

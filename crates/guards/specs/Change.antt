@@ -1,4 +1,4 @@
--- What the code's answer says of a count that is to change, as a rule.
+-- What the code says becomes of a count, as a rule.
 use Prim.Native.Nat.{ℕ}
 use Rattle.rules.specs.Numbers.{FAULT}
 use Rattle.rules.specs.Rule.{Rule, done, refuse}

@@ -9,7 +9,8 @@ use Rattle.rules.specs.Numbers.{Answer}
 use Rattle.rules.specs.State.{Stage}
 use Rattle.rules.specs.Rule.{Rule}
 use Rattle.rules.specs.Layout.{process-at, channel-at, process-enabling, process-not-ready, process-waiting, process-count, process-progress}
-use Rattle.rules.specs.Layout.{process-guards, process-index, process-first-ready, process-first-guard, guard-places, channel-holder, at-enable-look, at-wait}
+use Rattle.rules.specs.Layout.{process-guards, process-index, process-first-ready, process-first-guard, guard-places, channel-holder}
+use Rattle.rules.specs.Layout.{at-enable-look, at-wait}
 use Rattle.rules.specs.Packing.{ready-numbered}
 use Rattle.table.specs.Has.{HasProcess, HasChannel}
 use Rattle.answers.specs.declared.Reply.{Reply}
@@ -81,13 +82,20 @@ ready-table t cores p = next-table (set t (process-at cores p process-not-ready)
 -- process p has these flags
 abbrev pub flags-table : List ℕ → ℕ → ℕ → ℕ → ℕ → ℕ → List ℕ
 flags-table t cores p enabling not-ready waiting =
-    set (set (set t (process-at cores p process-enabling) enabling) (process-at cores p process-not-ready) not-ready) (process-at cores p process-waiting) waiting
+    set (set (set t (process-at cores p process-enabling) enabling) (process-at cores p process-not-ready) not-ready)
+    (process-at cores p process-waiting) waiting
 
 -- the guard of process p is ready: the first such is kept
 abbrev pub kept-table : List ℕ → ℕ → ℕ → List ℕ
 kept-table t cores p =
-    let ready = word-of t cores p process-first-ready in set t (process-at cores p process-first-ready) (if eqb ready 0 then index-at t cores p else ready)
+    let ready = word-of t cores p process-first-ready in
+    set t (process-at cores p process-first-ready) (if eqb ready 0 then index-at t cores p else ready)
+
+-- process p has the count n
+abbrev pub counted-table : List ℕ → ℕ → ℕ → ℕ → List ℕ
+counted-table t cores p n = set t (process-at cores p process-count) n
 
 -- process q is triggered, and has the count n
 abbrev pub triggered-table : List ℕ → ℕ → ℕ → ℕ → List ℕ
-triggered-table t cores q n = set (set (set t (process-at cores q process-not-ready) 0) (process-at cores q process-waiting) 0) (process-at cores q process-count) n
+triggered-table t cores q n =
+    counted-table (set (set t (process-at cores q process-not-ready) 0) (process-at cores q process-waiting) 0) cores q n

@@ -52,17 +52,20 @@ set-process-word-requires c κs =
 
 reports-requires : tie.Need-reports-requires
 reports-requires c κs =
-    let h = at-process (c .before .before .before .before .before .before .before .before .before .before .before .before .before .before .before .before .before .before .pre) in
+    let early = c .before .before .before .before .before .before .before .before .before in
+    let h = at-process (early .before .before .before .before .before .before .before .before .before .pre) in
     omega arith
 
 set-due-requires : tie.Need-set-due-requires
 set-due-requires c κs =
-    let h = at-process (c .before .before .before .before .before .before .before .before .before .before .before .before .before .before .before .before .before .before .pre) in
+    let early = c .before .before .before .before .before .before .before .before .before in
+    let h = at-process (early .before .before .before .before .before .before .before .before .before .pre) in
     omega arith
 
 falls-asleep-requires : tie.Need-falls-asleep-requires
 falls-asleep-requires c κs =
-    let at = c .before .before .before .before .before .before .before .before .before .before .before .before .before .before .before .before .before .before .before .before .before .before .pre in
+    let early = c .before .before .before .before .before .before .before .before .before .before .before in
+    let at = early .before .before .before .before .before .before .before .before .before .before .before .pre in
     let process = at-process at in
     let core = at-core at in
     (omega arith, omega arith)
@@ -75,7 +78,8 @@ returns-2 c =
     let read = c .before .before .before .before .before in
     let at = read .before .before .before .before .before .pre in
     finish-fault at (λ e. omega arith)
-    (now-changes lowered (c .before .enum-told .given .1) (read .process-word2 .ensures) (c .before .before .before .lowered .ensures)) (c .refused2 .ensures) (cc)
+    (now-changes lowered (c .before .enum-told .given .1) (read .process-word2 .ensures) (c .before .before .before .lowered .ensures))
+    (c .refused2 .ensures) (cc)
 
 same-length-3 : tie.Need-same-length-3
 same-length-3 c = search needs
@@ -89,7 +93,8 @@ returns-3 c =
     let ready = read .before .before in
     finish-now (ready .before .before .before .pre) (ready .process-word .ensures) (named .before .before .before .if1 .left)
     (now-changes lowered (named .left .given .1) (read .process-word2 .ensures) (named .before .before .lowered .ensures))
-    (went .before .before .if2 .taken) (counted .before .before .guard .ensures) (counted .set-process-word .ensures) (went .reports .ensures .1) (went .reports .ensures .0)
+    (went .before .before .if2 .taken) (counted .before .before .guard .ensures) (counted .set-process-word .ensures)
+    (went .reports .ensures .1) (went .reports .ensures .0)
 
 same-length-4 : tie.Need-same-length-4
 same-length-4 c = search needs

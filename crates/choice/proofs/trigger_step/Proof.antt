@@ -32,21 +32,26 @@ process-word-requires-2 c κs =
     omega arith
 
 set-triggered-requires : tie.Need-set-triggered-requires
-set-triggered-requires c κs = let pre = c .before .before .before .before .before .before .before .before .before .before .pre in trigger-process (pre .0) (pre .1)
+set-triggered-requires c κs =
+    let pre = c .before .before .before .before .before .before .before .before .before .before .pre in
+    trigger-process (pre .0) (pre .1)
 
 next-task-requires : tie.Need-next-task-requires
 next-task-requires c κs =
-    let h = card-core _ _ _ _ (c .before .before .before .before .before .before .before .before .before .before .before .before .before .before .before .pre .0) in
+    let early = c .before .before .before .before .before .before .before in
+    let h = card-core _ _ _ _ (early .before .before .before .before .before .before .before .before .pre .0) in
     omega arith
 
 next-task-requires-2 : tie.Need-next-task-requires-2
 next-task-requires-2 c κs =
-    let h = card-core _ _ _ _ (c .before .before .before .before .before .before .before .before .before .before .before .before .before .before .before .before .pre .0) in
+    let early = c .before .before .before .before .before .before .before .before in
+    let h = card-core _ _ _ _ (early .before .before .before .before .before .before .before .before .pre .0) in
     omega arith
 
 next-task-requires-3 : tie.Need-next-task-requires-3
 next-task-requires-3 c κs =
-    let h = card-core _ _ _ _ (c .before .before .before .before .before .before .before .before .before .before .before .before .before .before .before .before .pre .0) in
+    let early = c .before .before .before .before .before .before .before .before in
+    let h = card-core _ _ _ _ (early .before .before .before .before .before .before .before .before .pre .0) in
     omega arith
 
 same-length : tie.Need-same-length
@@ -56,7 +61,8 @@ returns : tie.Need-returns
 returns c =
     let read = c .before .before .before .before in
     let pre = read .before .before .before .pre in
-    trigger-fault (pre .0) (pre .1) (now-changes lowered (c .before .enum-told .given .1) (read .process-word .ensures) (c .before .before .before .lowered .ensures))
+    trigger-fault (pre .0) (pre .1)
+    (now-changes lowered (c .before .enum-told .given .1) (read .process-word .ensures) (c .before .before .before .lowered .ensures))
     (c .refused .ensures) (cc)
 
 same-length-2 : tie.Need-same-length-2
@@ -71,7 +77,8 @@ returns-2 c =
     let pre = read .before .before .before .pre in
     trigger-waited (pre .0) (pre .1) (waited .process-word2 .ensures)
     (now-changes lowered (named .n .given .1) (read .process-word .ensures) (named .before .before .lowered .ensures))
-    (went .before .before .before .before .before .set-triggered .ensures) (went .next-task .ensures .1) (went .before .before .if1 .taken) (went .next-task .ensures .0)
+    (went .before .before .before .before .before .set-triggered .ensures) (went .next-task .ensures .1)
+    (went .before .before .if1 .taken) (went .next-task .ensures .0)
 
 same-length-3 : tie.Need-same-length-3
 same-length-3 c = search needs
@@ -85,7 +92,8 @@ returns-3 c =
     let pre = read .before .before .before .pre in
     trigger-last (pre .0) (pre .1) (waited .process-word2 .ensures)
     (now-changes lowered (named .n .given .1) (read .process-word .ensures) (named .before .before .lowered .ensures))
-    (went .before .before .before .before .before .before .set-triggered .ensures) (went .next-task2 .ensures .1) (went .before .before .if2 .taken) (went .next-task2 .ensures .0)
+    (went .before .before .before .before .before .before .set-triggered .ensures) (went .next-task2 .ensures .1)
+    (went .before .before .if2 .taken) (went .next-task2 .ensures .0)
 
 same-length-4 : tie.Need-same-length-4
 same-length-4 c = search needs
@@ -99,7 +107,8 @@ returns-4 c =
     let pre = read .before .before .before .pre in
     trigger-over (pre .0) (pre .1) (waited .process-word2 .ensures)
     (now-changes lowered (named .n .given .1) (read .process-word .ensures) (named .before .before .lowered .ensures))
-    (went .before .before .before .before .before .before .set-triggered .ensures) (went .next-task3 .ensures .1) (went .before .before .before .if1 .left) (went .before .before .if2 .left) (went .next-task3 .ensures .0)
+    (went .before .before .before .before .before .before .set-triggered .ensures) (went .next-task3 .ensures .1)
+    (went .before .before .before .if1 .left) (went .before .before .if2 .left) (went .next-task3 .ensures .0)
 
 pub trigger-step-spec : {M : Type 1} → statement M
 trigger-step-spec =

@@ -43,7 +43,8 @@ returns : tie.Need-returns
 returns c =
     let read = c .before .before .before .before in
     raise-fault (read .before .before .before .pre)
-    (now-changes raised (c .before .enum-told .given .1) (read .process-word .ensures) (c .before .before .before .raised .ensures)) (c .refused .ensures) (cc)
+    (now-changes raised (c .before .enum-told .given .1) (read .process-word .ensures) (c .before .before .before .raised .ensures))
+    (c .refused .ensures) (cc)
 
 same-length-2 : tie.Need-same-length-2
 same-length-2 c = search needs
@@ -54,7 +55,8 @@ returns-2 c =
     let named = went .before .before .before .before .before .before .before in
     let read = named .before .before .before in
     raise-done (read .before .before .before .pre)
-    (now-changes raised (named .n .given .1) (read .process-word .ensures) (named .before .before .raised .ensures)) (went .move-on .ensures .1) (cc)
+    (now-changes raised (named .n .given .1) (read .process-word .ensures) (named .before .before .raised .ensures))
+    (went .move-on .ensures .1) (cc)
 
 pub raise-step-spec : {M : Type 1} → statement M
 raise-step-spec =

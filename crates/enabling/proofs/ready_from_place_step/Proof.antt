@@ -41,7 +41,8 @@ returns : tie.Need-returns
 returns c =
     let read = c .before .before .before .before in
     ready-place-fault (read .before .before .before .pre)
-    (now-changes lowered (c .before .enum-told .given .1) (read .process-word .ensures) (c .before .before .before .lowered .ensures)) (c .refused .ensures) (cc)
+    (now-changes lowered (c .before .enum-told .given .1) (read .process-word .ensures) (c .before .before .before .lowered .ensures))
+    (c .refused .ensures) (cc)
 
 same-length-2 : tie.Need-same-length-2
 same-length-2 c = search needs
@@ -52,7 +53,8 @@ returns-2 c =
     let named = went .before .before .before .before .before .before .before in
     let read = named .before .before .before in
     ready-place-done (read .before .before .before .pre)
-    (now-changes lowered (named .n .given .1) (read .process-word .ensures) (named .before .before .lowered .ensures)) (went .goes-on-ready .ensures .1) (cc)
+    (now-changes lowered (named .n .given .1) (read .process-word .ensures) (named .before .before .lowered .ensures))
+    (went .goes-on-ready .ensures .1) (cc)
 
 pub ready-from-place-step-spec : {M : Type 1} → statement M
 ready-from-place-step-spec =
