@@ -16,7 +16,7 @@ use Rattle.rules.specs.Rule.{Rule, run, done, the, becomes, _>>=_, _>>_}
 use Rattle.rules.specs.Steps.{has-task}
 use Rattle.rules.specs.Choice.{guard, counting, flags, lowered, finished, finish-step, trigger-step}
 use Rattle.rules.specs.Layout.{process-at, at-finish, due-chose, guard-places, process-channel, process-count, process-first-ready}
-use Rattle.rules.specs.Layout.{process-not-ready, process-waiting, task-none, task-wake}
+use Rattle.rules.specs.Layout.{process-not-ready, process-progress, process-waiting, task-none, task-wake}
 use Rattle.rules.specs.Packing.{work-words, ready-number, progress-words, view}
 use Rattle.rules.specs.Soundness.{own-end, own-guards, ready-in-list}
 use Rattle.rules.proofs.Tests.{both, three, within-means}
@@ -42,7 +42,8 @@ use Rattle.guards.proofs.Rules.{ready-range, first-fault, first-on, by-count}
 chose-due : {t : List ℕ} {cores processes : ℕ} {s : State} → Packs t cores processes s → (p : ℕ) → IsProcess s p → (c : ℕ)
     → Packs (due-table t cores p due-chose c) cores processes (put progress p (due (chose c)) s)
 unfolding progress-words
-chose-due packs p is c = fresh-written packs p is (due (chose c)) ((0, due-chose) ∷ (in-progress process-channel, c) ∷ []) tt refl
+chose-due packs p is c =
+    fresh-written packs p is (due (chose c)) ((in-progress process-progress, due-chose) ∷ (in-progress process-channel, c) ∷ []) tt refl
 
 module _ {t : List ℕ} {cores processes k p : ℕ} {gs : List ℕ} {x : Option ℕ} (at : At t cores processes k p (finish gs x)) where
   finish-chooses : Chooses t cores processes (view t) p at-finish gs 0 x
