@@ -1,5 +1,5 @@
 -- What the wait and the steps of disabling come to: by a word that the code reads, the words that it writes then.
-use Prim.Native.Nat.{ℕ, zero, suc, _+_, _-_}
+use Prim.Native.Nat.{ℕ, zero, suc, _+_}
 use mathlib.Core.Path.{_≡_, refl, sym, ap, _∙_, subst}
 use mathlib.Core.Bool.{Bool, true, false}
 use mathlib.Core.List.{List, [], _∷_}
@@ -11,17 +11,15 @@ use lib.Seq.{set-set, getD-set-same}
 use borrow.Author.Tests.{eq-eqb, ne-eqb}
 use Rattle.rules.specs.Lists.{if_then_else_, bit}
 use Rattle.rules.specs.Numbers.{Answer, MOVED, SLEPT, FAULT, yes-with, no-because}
-use Rattle.rules.specs.State.{wait, disable, lower, finish, Progress, doing, Alternation, Process, no-task, ChannelWord, nobody, State, wiring}
+use Rattle.rules.specs.State.{wait, disable, lower, finish, Progress, doing, Alternation, Process, no-task, ChannelWord, nobody, State}
 use Rattle.rules.specs.Items.{process-of, no-process, put, alternation, progress}
 use Rattle.rules.specs.Rule.{Rule, run, becomes, _>>_}
 use Rattle.rules.specs.Steps.{next}
-use Rattle.rules.specs.Choice.{guard, counting, flags, waits, wait-step, disable-next, keep-first, disabled, disable-step, lower-step}
+use Rattle.rules.specs.Choice.{guard, counting, flags, waits, wait-step, disable-next, keep-first, disabled, disable-step, lower-step, lowered}
 use Rattle.rules.specs.Layout.{process-at, channel-at, at-disable, at-finish, at-lower, at-wait, channel-holder, process-count}
-use Rattle.rules.specs.Layout.{process-enabling, process-first-ready, process-index, process-not-ready, process-progress, process-waiting}
+use Rattle.rules.specs.Layout.{process-enabling, process-first-ready, process-not-ready, process-progress, process-waiting}
 use Rattle.rules.specs.Layout.{task-none}
 use Rattle.rules.specs.Packing.{ready-number, progress-words, pack, view, word-numbered}
-use Rattle.rules.specs.Soundness.{own-guards, in-list, ready-in-list}
-use Rattle.rules.proofs.Tests.{three}
 use Rattle.words.specs.Meaning.{meaning}
 use Rattle.words.specs.declared.Holder.{Holder}
 use Rattle.words.specs.declared.Holder.the-variants.{Nobody, Plain, Choosing}
@@ -29,13 +27,15 @@ use Rattle.answers.specs.Four.{four}
 use Rattle.answers.specs.declared.Reply.{Reply}
 use Rattle.parts.specs.Does.{At, Comes, Does}
 use Rattle.parts.specs.Shared.{asleep-table}
-use Rattle.parts.proofs.Card.{card-inside, stage-valid}
+use Rattle.parts.proofs.Card.{card-inside}
 use Rattle.parts.proofs.Packs.{IsProcess, still-process, process-read, asleep-written}
 use Rattle.parts.proofs.Flags.{clear-flag, set-flag}
-use Rattle.guards.specs.Read.{word-of, guard-word-at, AtGuard, stage-table, next-table, flags-table, kept-table}
-use Rattle.guards.proofs.Guards.{in-alternation, Chooses, at-chooses, index-reads, ready-reads, count-is, same-guard, other-guard, next-packs}
+use Rattle.guards.specs.declared.Change.the-variants.{Fault, To}
+use Rattle.guards.specs.Change.{changes}
+use Rattle.guards.specs.Read.{word-of, index-at, count-at, counted-table, guard-word-at, AtGuard, stage-table, next-table, flags-table, kept-table}
+use Rattle.guards.proofs.Guards.{in-alternation, Chooses, at-chooses, index-reads, ready-reads, same-guard, other-guard, next-packs}
 use Rattle.guards.proofs.Guards.{alternation-chooses, ready-chooses, word-chooses}
-use Rattle.guards.proofs.Rules.{kept-number, lowered-fault, lowered-on}
+use Rattle.guards.proofs.Rules.{kept-number, by-count}
 use Rattle.guards.proofs.Stands.{Stands, disabling-stands, guard-among, guard-is, has-guard, found-word}
 
 -- Two changes of one process's progress are one.
@@ -91,11 +91,14 @@ module _ {t : List ℕ} {cores processes k p : ℕ} {gs : List ℕ} where
         )
 
     -- none is. The word read is n, the tables on the way are v and w.
-    pub wait-asleep : {r : Reply} {u v w : List ℕ} {n : ℕ} → n ≡ word-of t cores p process-not-ready → (n ≡ 0 → ⊥) → v ≡ flags-table t cores p 0 0 1
-        → w ≡ stage-table v cores p 1 at-disable → r ≡ four (yes-with (SLEPT p)) → u ≡ asleep-table w cores k p task-none 0 → Does (wait-step k p gs) t r u
+    pub wait-asleep : {r : Reply} {u v w : List ℕ} {n : ℕ} → n ≡ word-of t cores p process-not-ready → (n ≡ 0 → ⊥)
+        → v ≡ flags-table t cores p 0 0 1 → w ≡ stage-table v cores p 1 at-disable → r ≡ four (yes-with (SLEPT p))
+        → u ≡ asleep-table w cores k p task-none 0 → Does (wait-step k p gs) t r u
     unfolding progress-words
     wait-asleep {r} {u} reads ne first second a b =
-        let put-flags = alternation-chooses wait-chooses (flags false false true waiter) ((in-alternation process-enabling, 0) ∷ (in-alternation process-not-ready, 0) ∷ (in-alternation process-waiting, 1) ∷ []) tt refl in
+        let put-flags =
+        alternation-chooses wait-chooses (flags false false true waiter)
+        ((in-alternation process-enabling, 0) ∷ (in-alternation process-not-ready, 0) ∷ (in-alternation process-waiting, 1) ∷ []) tt refl in
         let waiting : State = put alternation p (flags false false true waiter) (view t) in
         let none-ready : waiter .not-ready ≡ true = set-flag (waiter .not-ready) (λ e. ne (reads ∙ flag-is ∙ e)) in
         subst (λ (y : Bool). Comes (run (waits k p gs waiter y) (view t)) t r u) (sym none-ready) (
@@ -110,7 +113,7 @@ module _ {t : List ℕ} {cores processes k p : ℕ} {gs : List ℕ} where
   module _ {i : ℕ} {x : Option ℕ} (at : At t cores processes k p (disable gs i x)) where
     disable-stands : Stands t cores processes k p at-disable gs i x
     unfolding progress-words
-    disable-stands = disabling-stands at at-disable gs i x refl (stage-valid t cores processes k p (disable gs i x) at)
+    disable-stands = disabling-stands at refl refl
 
     pub disable-guard : AtGuard t cores processes p
     disable-guard = has-guard disable-stands
@@ -132,10 +135,9 @@ module _ {t : List ℕ} {cores processes k p : ℕ} {gs : List ℕ} where
           → r ≡ four (yes-with MOVED) → u ≡ next-table (kept-table t cores p) cores p at-disable at-finish → Does (disable-step p gs i x) t r u
       unfolding progress-words
       disable-ready finds reads made a b =
-          let valid = stage-valid t cores processes k p (disable gs i x) at in
-          let ready = three (own-guards (wiring (view t)) p gs) (in-list gs i) (ready-in-list gs x) valid .2 in
-          let kept : (if eqb (word-of t cores p process-first-ready) 0 then word-of t cores p process-index else word-of t cores p process-first-ready) ≡ ready-number (keep-first x i) =
-          rw (ready-reads (disable-stands .chooses), index-reads (disable-stands .chooses)) (kept-number gs x i ready) in
+          let was : ℕ = word-of t cores p process-first-ready in
+          let kept : (if eqb was 0 then index-at t cores p else was) ≡ ready-number (keep-first x i) =
+          rw (ready-reads (disable-stands .chooses), index-reads (disable-stands .chooses)) (kept-number gs x i (disable-stands .ready)) in
           by-word finds reads made r u (
             a,
             b ∙ disabled-packs (ready-chooses (disable-stands .chooses) (disable gs i (keep-first x i)) _ (keep-first x i) kept refl)
@@ -150,7 +152,9 @@ module _ {t : List ℕ} {cores processes k p : ℕ} {gs : List ℕ} where
           by-word finds reads made r u
           (rw (eq-eqb q p own) (
             a,
-            b ∙ ap (λ (c : ℕ). set (set t (channel-at cores processes c channel-holder) 0) (process-at cores p process-progress) at-lower) (guard-is disable-stands)
+            b
+                ∙ ap (λ (c : ℕ). set (set t (channel-at cores processes c channel-holder) 0) (process-at cores p process-progress) at-lower)
+                (guard-is disable-stands)
                 ∙ same-guard (word-chooses (disable-stands .chooses) (guard gs i) (guard-among disable-stands) nobody) (lower gs i x) at-lower refl,
           ))
 
@@ -162,25 +166,23 @@ module _ {t : List ℕ} {cores processes k p : ℕ} {gs : List ℕ} where
   -- Lower
 
   module _ {i : ℕ} {x : Option ℕ} (at : At t cores processes k p (lower gs i x)) where
-    lower-chooses : Chooses t cores processes (view t) p at-lower gs i x
+    lower-stands : Stands t cores processes k p at-lower gs i x
     unfolding progress-words
-    lower-chooses = at-chooses at at-lower gs i x refl
+    lower-stands = disabling-stands at refl refl
 
     -- what follows the count
     abbrev lowering : ℕ → Rule Answer
     lowering n = becomes alternation p (counting n (process-of (view t) p .alternation)) >> next p (disable-next gs i x)
 
-    pub lower-fault : {r : Reply} {u : List ℕ} → word-of t cores p process-count ≡ 0 → r ≡ four (no-because FAULT) → u ≡ t
+    pub lower-fault : {r : Reply} {u : List ℕ} → changes Fault ≡ lowered (count-at t cores p) → r ≡ four (no-because FAULT) → u ≡ t
         → Does (lower-step p gs i x) t r u
-    lower-fault {r} {u} e a b =
-        lowered-fault (view t) t lowering r u (process-of (view t) p .alternation .count) (sym (count-is lower-chooses) ∙ e) a b
+    lower-fault {r} {u} made a b = by-count (lower-stands .chooses .packs) p (lower-stands .chooses .among) lowered lowering Fault made r u (a, b)
 
-    pub lower-done : {r : Reply} {u : List ℕ} → (word-of t cores p process-count ≡ 0 → ⊥) → r ≡ four (yes-with MOVED)
-        → u ≡ next-table (set t (process-at cores p process-count) (word-of t cores p process-count - 1)) cores p at-disable at-finish → Does (lower-step p gs i x) t r u
-    lower-done {r} {u} ne a b =
-        let n = process-of (view t) p .alternation .count in
-        lowered-on (view t) t lowering r u n (λ e. ne (count-is lower-chooses ∙ e)) (
+    pub lower-done : {n : ℕ} {r : Reply} {u : List ℕ} → changes (To n) ≡ lowered (count-at t cores p) → r ≡ four (yes-with MOVED)
+        → u ≡ next-table (counted-table t cores p n) cores p at-disable at-finish → Does (lower-step p gs i x) t r u
+    lower-done {n} {r} {u} made a b =
+        by-count (lower-stands .chooses .packs) p (lower-stands .chooses .among) lowered lowering (To n) made r u (
           a,
-          b ∙ disabled-packs (alternation-chooses lower-chooses (counting (n - 1) (process-of (view t) p .alternation))
-              ((in-alternation process-count, word-of t cores p process-count - 1) ∷ []) tt (rw (count-is lower-chooses))),
+          b ∙ disabled-packs (alternation-chooses (lower-stands .chooses) (counting n (process-of (view t) p .alternation))
+              ((in-alternation process-count, n) ∷ []) tt refl),
         )

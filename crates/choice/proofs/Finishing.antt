@@ -1,5 +1,5 @@
 -- What the end of a choice and the kernel task trigger come to: by a word that the code reads, the words that it writes then.
-use Prim.Native.Nat.{ℕ, suc, _+_, _-_, _≤_, _<_}
+use Prim.Native.Nat.{ℕ, suc, _-_, _≤_, _<_}
 use mathlib.Core.Path.{_≡_, refl, sym, ap, _∙_, subst}
 use mathlib.Core.Bool.{Bool, true, false, _||_}
 use mathlib.Core.List.{List, [], _∷_}
@@ -16,7 +16,7 @@ use Rattle.rules.specs.Rule.{Rule, run, done, the, becomes, _>>=_, _>>_}
 use Rattle.rules.specs.Steps.{has-task}
 use Rattle.rules.specs.Choice.{guard, counting, flags, lowered, finished, finish-step, trigger-step}
 use Rattle.rules.specs.Layout.{process-at, at-finish, due-chose, guard-places, process-channel, process-count, process-first-ready}
-use Rattle.rules.specs.Layout.{process-not-ready, process-waiting, task-none, task-wake}
+use Rattle.rules.specs.Layout.{process-not-ready, process-progress, process-waiting, task-none, task-wake}
 use Rattle.rules.specs.Packing.{work-words, ready-number, progress-words, view}
 use Rattle.rules.specs.Soundness.{own-end, own-guards, ready-in-list}
 use Rattle.rules.proofs.Tests.{both, three, within-means}
@@ -29,9 +29,12 @@ use Rattle.parts.proofs.Card.{card-inside, card-process, work-valid, stage-vali
 use Rattle.parts.proofs.Packs.{Packs, IsProcess, card-packs, still-process, process-read, alternation-written, fresh-written, progress-cleared}
 use Rattle.parts.proofs.Packs.{task-written, asleep-written}
 use Rattle.parts.proofs.Flags.{set-flag, unset-flag}
-use Rattle.guards.specs.Read.{word-of, guard-place, triggered-table}
-use Rattle.guards.proofs.Guards.{in-progress, in-alternation, Chooses, at-chooses, ready-reads, guard-reads, count-is, alternation-chooses}
-use Rattle.guards.proofs.Rules.{ready-range, first-fault, first-on, lowered-fault, lowered-on}
+use Rattle.guards.specs.declared.Change.{Change}
+use Rattle.guards.specs.declared.Change.the-variants.{Fault, To}
+use Rattle.guards.specs.Change.{changes}
+use Rattle.guards.specs.Read.{word-of, count-at, counted-table, guard-place, triggered-table}
+use Rattle.guards.proofs.Guards.{in-progress, in-alternation, Chooses, at-chooses, ready-reads, guard-reads, alternation-chooses}
+use Rattle.guards.proofs.Rules.{ready-range, first-fault, first-on, by-count}
 
 -- Finish
 
@@ -39,7 +42,8 @@ use Rattle.guards.proofs.Rules.{ready-range, first-fault, first-on, lowered-fau
 chose-due : {t : List ℕ} {cores processes : ℕ} {s : State} → Packs t cores processes s → (p : ℕ) → IsProcess s p → (c : ℕ)
     → Packs (due-table t cores p due-chose c) cores processes (put progress p (due (chose c)) s)
 unfolding progress-words
-chose-due packs p is c = fresh-written packs p is (due (chose c)) ((0, due-chose) ∷ (in-progress process-channel, c) ∷ []) tt refl
+chose-due packs p is c =
+    fresh-written packs p is (due (chose c)) ((in-progress process-progress, due-chose) ∷ (in-progress process-channel, c) ∷ []) tt refl
 
 module _ {t : List ℕ} {cores processes k p : ℕ} {gs : List ℕ} {x : Option ℕ} (at : At t cores processes k p (finish gs x)) where
   finish-chooses : Chooses t cores processes (view t) p at-finish gs 0 x
@@ -58,7 +62,8 @@ module _ {t : List ℕ} {cores processes k p : ℕ} {gs : List ℕ} {x : Option 
       (range .0, omega arith)
 
   -- the table has its word
-  pub finish-guard : (word-of t cores p process-first-ready ≡ 0 → ⊥) → process-at cores p (guard-place (word-of t cores p process-first-ready)) < length t
+  pub finish-guard : (word-of t cores p process-first-ready ≡ 0 → ⊥)
+      → process-at cores p (guard-place (word-of t cores p process-first-ready)) < length t
   finish-guard there =
       let process : HasProcess t cores p = runs-process t cores processes k p (finish gs x) at in
       let range = finish-range there in
@@ -66,7 +71,8 @@ module _ {t : List ℕ} {cores processes k p : ℕ} {gs : List ℕ} {x : Option 
       omega arith
 
   -- and that word is the guard
-  chosen : (word-of t cores p process-first-ready ≡ 0 → ⊥) → word-of t cores p (guard-place (word-of t cores p process-first-ready)) ≡ guard gs (ready-number x)
+  chosen : (word-of t cores p process-first-ready ≡ 0 → ⊥)
+      → word-of t cores p (guard-place (word-of t cores p process-first-ready)) ≡ guard gs (ready-number x)
   chosen there =
       let range = finish-range there in
       ap (λ (j : ℕ). word-of t cores p (guard-place j)) (ready-reads finish-chooses)
@@ -82,9 +88,9 @@ module _ {t : List ℕ} {cores processes k p : ℕ} {gs : List ℕ} {x : Option 
   abbrev counted : ℕ → Rule Answer
   counted c = the alternation p >>= (λ (a : Alternation). lowered (a .count) >>= (λ n. becomes alternation p (counting n a) >> finished k p c n))
 
-  -- the state with the count lowered
-  abbrev less : State
-  less = put alternation p (counting (finisher .count - 1) finisher) (view t)
+  -- the state with the count n
+  abbrev less : ℕ → State
+  less n = put alternation p (counting n finisher) (view t)
 
   -- no guard is ready
   pub finish-none : {r : Reply} {u : List ℕ} → word-of t cores p process-first-ready ≡ 0 → r ≡ four (no-because FAULT) → u ≡ t
@@ -96,58 +102,55 @@ module _ {t : List ℕ} {cores processes k p : ℕ} {gs : List ℕ} {x : Option 
     one-ready : (r : Reply) (u : List ℕ) → Comes (run (counted (guard gs (ready-number x))) (view t)) t r u → Does (finish-step k p gs x) t r u
     one-ready r u h = first-on (view t) t counted r u gs x (λ e. there (ready-reads finish-chooses ∙ e)) h
 
-    -- the count is 0
-    pub finish-fault : {r : Reply} {u : List ℕ} → word-of t cores p process-count ≡ 0 → r ≡ four (no-because FAULT) → u ≡ t
-        → Does (finish-step k p gs x) t r u
-    finish-fault {r} {u} e a b =
+    -- by what becomes of the count
+    counting-on : (to : Change) → changes to ≡ lowered (count-at t cores p) → (r : Reply) (u : List ℕ)
+        → Comes (run (changes to >>= ending (guard gs (ready-number x))) (view t)) t r u → Does (finish-step k p gs x) t r u
+    counting-on to made r u h =
         one-ready r u
-        (lowered-fault (view t) t (ending (guard gs (ready-number x))) r u (finisher .count) (sym (count-is finish-chooses) ∙ e) a b)
+        (by-count (finish-chooses .packs) p (finish-chooses .among) lowered (ending (guard gs (ready-number x))) to made r u h)
 
-    -- it is lowered
-    finish-lowered : Chooses (set t (process-at cores p process-count) (word-of t cores p process-count - 1)) cores processes less p at-finish gs 0 x
-    finish-lowered =
-        alternation-chooses finish-chooses (counting (finisher .count - 1) finisher) ((in-alternation process-count, word-of t cores p process-count - 1) ∷ []) tt
-        (rw (count-is finish-chooses))
-
-    ended : (r : Reply) (u : List ℕ) → (word-of t cores p process-count ≡ 0 → ⊥)
-        → Comes (run (finished k p (guard gs (ready-number x)) (finisher .count - 1)) less) t r u
+    pub finish-fault : {r : Reply} {u : List ℕ} → changes Fault ≡ lowered (count-at t cores p) → r ≡ four (no-because FAULT) → u ≡ t
         → Does (finish-step k p gs x) t r u
-    ended r u ne h =
-        one-ready r u
-        (lowered-on (view t) t (ending (guard gs (ready-number x))) r u (finisher .count) (λ e. ne (count-is finish-chooses ∙ e)) h)
+    finish-fault {r} {u} made a b = counting-on Fault made r u (a, b)
 
+  -- the count is n
+  finish-lowered : (n : ℕ) → Chooses (counted-table t cores p n) cores processes (less n) p at-finish gs 0 x
+  finish-lowered n = alternation-chooses finish-chooses (counting n finisher) ((in-alternation process-count, n) ∷ []) tt refl
+
+  -- the first ready guard is read as i, and its channel as c
+  chosen-is : {i c : ℕ} → i ≡ word-of t cores p process-first-ready → (i ≡ 0 → ⊥) → c ≡ word-of t cores p (guard-place i)
+      → c ≡ guard gs (ready-number x)
+  chosen-is ready there found = found ∙ ap (λ (j : ℕ). word-of t cores p (guard-place j)) ready ∙ chosen (λ e. there (ready ∙ e))
+
+  -- The count becomes n; the tables on the way are v and w.
+  module _ {i c n : ℕ} {v : List ℕ} where
     -- to 0: the choice is over
-    pub finish-now : {r : Reply} {u : List ℕ} → word-of t cores p process-count ≡ 1
-        → r ≡ four (yes-with (CHOSE p (word-of t cores p (guard-place (word-of t cores p process-first-ready)))))
-        → u ≡ cleared (set t (process-at cores p process-count) (word-of t cores p process-count - 1)) cores p → Does (finish-step k p gs x) t r u
-    finish-now {r} {u} e a b =
-        let one = count-is finish-chooses in
-        let left : finisher .count - 1 ≡ 0 = omega arith in
-        ended r u (λ z. omega arith)
-        (subst (λ (n : ℕ). Comes (run (finished k p (guard gs (ready-number x)) n) less) t r u)
-        (sym left)
-        (a ∙ ap (λ (c : ℕ). four (yes-with (CHOSE p c))) (chosen there), b ∙ progress-cleared (finish-lowered .packs) p (finish-lowered .among) .is-pack))
+    pub finish-now : {r : Reply} {u : List ℕ} → i ≡ word-of t cores p process-first-ready → (i ≡ 0 → ⊥)
+        → changes (To n) ≡ lowered (count-at t cores p) → n ≡ 0 → c ≡ word-of t cores p (guard-place i)
+        → v ≡ counted-table t cores p n → r ≡ four (yes-with (CHOSE p c)) → u ≡ cleared v cores p → Does (finish-step k p gs x) t r u
+    finish-now {r} {u} ready there made none-left found first a b =
+        counting-on (λ e. there (ready ∙ e)) (To n) made r u
+        (subst (λ (m : ℕ). Comes (run (finished k p (guard gs (ready-number x)) m) (less n)) t r u) (sym none-left) (
+          a ∙ ap (λ (g : ℕ). four (yes-with (CHOSE p g))) (chosen-is ready there found),
+          b ∙ ap (λ (l : List ℕ). cleared l cores p) first ∙ progress-cleared (finish-lowered n .packs) p (finish-lowered n .among) .is-pack,
+        ))
 
-  -- above 0: it sleeps. The words read are i and m, the tables on the way v and w.
-  pub finish-later : {r : Reply} {u v w : List ℕ} {i m c : ℕ} → i ≡ word-of t cores p process-first-ready → m ≡ word-of t cores p process-count
-      → (i ≡ 0 → ⊥) → (m ≡ 0 → ⊥) → (m ≡ 1 → ⊥) → c ≡ word-of t cores p (guard-place i) → v ≡ set t (process-at cores p process-count) (m - 1)
-      → w ≡ due-table v cores p due-chose c → r ≡ four (yes-with (SLEPT p)) → u ≡ asleep-table w cores k p task-none 0 → Does (finish-step k p gs x) t r u
-  finish-later {r} {u} {v} {w} {i} {m} {c} ready read there ne more found first second a b =
-      let is-ready : word-of t cores p process-first-ready ≡ 0 → ⊥ = λ e. there (ready ∙ e) in
-      let lower = finish-lowered is-ready in
-      let count = count-is finish-chooses in
-      let left : finisher .count - 1 ≡ suc (finisher .count - 2) = omega arith in
-      let g : ℕ = guard gs (ready-number x) in
-      let due-there : w ≡ due-table (set t (process-at cores p process-count) (word-of t cores p process-count - 1)) cores p due-chose g =
-      let e : c ≡ g = found ∙ ap (λ (j : ℕ). word-of t cores p (guard-place j)) ready ∙ chosen is-ready in
-      rw (second, first, read, e) in
-      ended is-ready r u (λ e. ne (read ∙ e))
-      (subst (λ (n : ℕ). Comes (run (finished k p g n) less) t r u) (sym left) (
-        a,
-        b ∙ ap (λ (l : List ℕ). asleep-table l cores k p task-none 0) due-there
-            ∙ asleep-written (chose-due (lower .packs) p (lower .among) g) k (card-inside (at .card)) p (still-process less p p _ (lower .among))
-            no-task task-none 0 refl .is-pack,
-      ))
+    -- above 0: it sleeps
+    pub finish-later : {r : Reply} {u w : List ℕ} → i ≡ word-of t cores p process-first-ready → (i ≡ 0 → ⊥)
+        → changes (To n) ≡ lowered (count-at t cores p) → (n ≡ 0 → ⊥) → c ≡ word-of t cores p (guard-place i)
+        → v ≡ counted-table t cores p n → w ≡ due-table v cores p due-chose c → r ≡ four (yes-with (SLEPT p))
+        → u ≡ asleep-table w cores k p task-none 0 → Does (finish-step k p gs x) t r u
+    finish-later {r} {u} {w} ready there made some-left found first second a b =
+        let left : suc (n - 1) ≡ n = omega arith in
+        let g : ℕ = guard gs (ready-number x) in
+        let due-there : w ≡ due-table (counted-table t cores p n) cores p due-chose g = rw (second, first, chosen-is ready there found) in
+        counting-on (λ e. there (ready ∙ e)) (To n) made r u
+        (subst (λ (m : ℕ). Comes (run (finished k p g m) (less n)) t r u) left (
+          a,
+          b ∙ ap (λ (l : List ℕ). asleep-table l cores k p task-none 0) due-there
+              ∙ asleep-written (chose-due (finish-lowered n .packs) p (finish-lowered n .among) g) k (card-inside (at .card)) p
+              (still-process (less n) p p _ (finish-lowered n .among)) no-task task-none 0 refl .is-pack,
+        ))
 
 -- Trigger
 
@@ -162,9 +165,6 @@ module _ {t : List ℕ} {cores processes k q : ℕ} (card : Card t cores process
   abbrev triggered : Alternation
   triggered = process-of (view t) q .alternation
 
-  trigger-count : word-of t cores q process-count ≡ triggered .count
-  trigger-count = process-read (card-packs card) q trigger-among process-count (lit< tt)
-
   trigger-waiting : word-of t cores q process-waiting ≡ bit (triggered .waiting)
   trigger-waiting = process-read (card-packs card) q trigger-among process-waiting (lit< tt)
 
@@ -174,47 +174,38 @@ module _ {t : List ℕ} {cores processes k q : ℕ} (card : Card t cores process
       becomes alternation q (flags (triggered .enabling) false false (counting n triggered))
       >> (has-task k (if triggered .waiting || eqb n 0 then wake-up q else no-task) >> done MOVED)
 
-  pub trigger-fault : {r : Reply} {u : List ℕ} → word-of t cores q process-count ≡ 0 → r ≡ four (no-because FAULT) → u ≡ t → Does (trigger-step k q) t r u
-  trigger-fault {r} {u} e a b = lowered-fault (view t) t triggering r u (triggered .count) (sym trigger-count ∙ e) a b
+  pub trigger-fault : {r : Reply} {u : List ℕ} → changes Fault ≡ lowered (count-at t cores q) → r ≡ four (no-because FAULT) → u ≡ t
+      → Does (trigger-step k q) t r u
+  trigger-fault {r} {u} made a b = by-count (card-packs card) q trigger-among lowered triggering Fault made r u (a, b)
 
-  -- The count read is m, the table on the way v. By the words of the task that comes next:
-  module _ {r : Reply} {u v : List ℕ} {m : ℕ} where
-    trigger-done : (task p : ℕ)
-        → work-words (free (if triggered .waiting || eqb (triggered .count - 1) 0 then wake-up q else no-task)) ≡ 0 ∷ task ∷ p ∷ []
-        → (word-of t cores q process-count ≡ 0 → ⊥) → m ≡ word-of t cores q process-count → v ≡ triggered-table t cores q (m - 1) → r ≡ four (yes-with MOVED)
+  -- The count becomes n, the waiting flag is read as m, the table on the way is v. By the words of the task that comes next:
+  module _ {r : Reply} {u v : List ℕ} {m n : ℕ} (reads : m ≡ word-of t cores q process-waiting)
+      (made : changes (To n) ≡ lowered (count-at t cores q)) (first : v ≡ triggered-table t cores q n) (a : r ≡ four (yes-with MOVED)) where
+    trigger-done : (task p : ℕ) → work-words (free (if triggered .waiting || eqb n 0 then wake-up q else no-task)) ≡ 0 ∷ task ∷ p ∷ []
         → u ≡ task-table v k task p → Does (trigger-step k q) t r u
-    trigger-done task p words ne read first a b =
-        let n = triggered .count - 1 in
-        let count : m ≡ triggered .count = read ∙ trigger-count in
-        lowered-on (view t) t triggering r u (triggered .count) (λ e. ne (trigger-count ∙ e)) (
+    trigger-done task p words b =
+        by-count (card-packs card) q trigger-among lowered triggering (To n) made r u (
           a,
           b ∙ ap (λ (l : List ℕ). task-table l k task p) first
               ∙ task-written (alternation-written (card-packs card) q trigger-among (flags (triggered .enabling) false false (counting n triggered))
-              ((in-alternation process-not-ready, 0) ∷ (in-alternation process-waiting, 0) ∷ (in-alternation process-count, m - 1) ∷ []) tt (rw count)) k (card-inside card)
-              (if triggered .waiting || eqb n 0 then wake-up q else no-task) task p words .is-pack,
+              ((in-alternation process-not-ready, 0) ∷ (in-alternation process-waiting, 0) ∷ (in-alternation process-count, n) ∷ []) tt refl)
+              k (card-inside card) (if triggered .waiting || eqb n 0 then wake-up q else no-task) task p words .is-pack,
         )
 
     -- waiting had been set
-    pub trigger-waited : word-of t cores q process-waiting ≡ 1 → (word-of t cores q process-count ≡ 0 → ⊥) → m ≡ word-of t cores q process-count
-        → v ≡ triggered-table t cores q (m - 1) → r ≡ four (yes-with MOVED) → u ≡ task-table v k task-wake q → Does (trigger-step k q) t r u
-    trigger-waited e = let reads = trigger-waiting in trigger-done task-wake q (rw (set-flag (triggered .waiting) (λ z. omega arith)))
+    pub trigger-waited : m ≡ 1 → u ≡ task-table v k task-wake q → Does (trigger-step k q) t r u
+    trigger-waited e =
+        let bit-is = trigger-waiting in trigger-done task-wake q (rw (set-flag (triggered .waiting) (λ z. omega arith)))
 
     -- the new count is 0
-    pub trigger-last : word-of t cores q process-count ≡ 1 → (word-of t cores q process-count ≡ 0 → ⊥) → m ≡ word-of t cores q process-count
-        → v ≡ triggered-table t cores q (m - 1) → r ≡ four (yes-with MOVED) → u ≡ task-table v k task-wake q → Does (trigger-step k q) t r u
-    trigger-last e =
-        let reads = trigger-count in
-        trigger-done task-wake q (rw (eq-eqb (triggered .count - 1) 0 (omega arith)) (either (triggered .waiting)))
+    pub trigger-last : n ≡ 0 → u ≡ task-table v k task-wake q → Does (trigger-step k q) t r u
+    trigger-last e = trigger-done task-wake q (rw (eq-eqb n 0 e) (either (triggered .waiting)))
       where
         either : (y : Bool) → work-words (free (if y || true then wake-up q else no-task)) ≡ 0 ∷ task-wake ∷ q ∷ []
         either true = refl
         either false = refl
 
     -- neither
-    pub trigger-over : (word-of t cores q process-waiting ≡ 1 → ⊥) → (word-of t cores q process-count ≡ 1 → ⊥) → (word-of t cores q process-count ≡ 0 → ⊥)
-        → m ≡ word-of t cores q process-count → v ≡ triggered-table t cores q (m - 1) → r ≡ four (yes-with MOVED) → u ≡ task-table v k task-none 0
-        → Does (trigger-step k q) t r u
-    trigger-over calm more ne =
-        let count = trigger-count in
-        trigger-done task-none 0
-        (rw (unset-flag (triggered .waiting) (λ e. calm (trigger-waiting ∙ e)), ne-eqb (triggered .count - 1) 0 (λ z. omega arith))) ne
+    pub trigger-over : (m ≡ 1 → ⊥) → (n ≡ 0 → ⊥) → u ≡ task-table v k task-none 0 → Does (trigger-step k q) t r u
+    trigger-over calm more =
+        trigger-done task-none 0 (rw (unset-flag (triggered .waiting) (λ e. calm (reads ∙ trigger-waiting ∙ e)), ne-eqb n 0 more))

@@ -1,7 +1,6 @@
 // The steps of a choice once its guards are enabled (document 01; 000, section 4.1), for the process p that runs on core k, and the kernel
 // task trigger.
 ghost use mathlib.Core.Path.{_≡_};
-ghost use Prim.Native.Nat.{_+_};
 ghost use lib.Dec.{eqb};
 ghost use Rattle.rules.specs.Lists.{if_then_else_};
 ghost use Rattle.rules.specs.Numbers.{MOVED, yes-with};
@@ -15,9 +14,10 @@ ghost use Rattle.answers.specs.Four.{four};
 ghost use Rattle.table.specs.Has.{HasCore, HasProcess};
 ghost use Rattle.parts.specs.Shared.{task-table};
 ghost use Rattle.parts.specs.Does.{Card, At, Does};
-ghost use Rattle.guards.specs.Read.{guards-at, index-at, ready-at};
+ghost use Rattle.guards.specs.Read.{guards-at, ready-at, AtDisabling, DoesDisabling};
 ghost use Rattle.guards.specs.Read.{next-table, flags-table, kept-table, triggered-table};
 use answers::Reply;
+use guards::Change;
 use words::Holder;
 
 // The flags of process p: enabling, not-ready, waiting.
@@ -72,10 +72,8 @@ fn goes_on_ready(t: &mut [u32], cores: usize, p: u32, again: u32, after: u32) ->
 
 // Disable: one's own name becomes 0, next lower; a process's plain name: the guard is ready, the first such is kept; otherwise not.
 pub fn disable_step(t: &mut [u32], cores: usize, processes: usize, k: usize, p: u32) -> Reply
-    requires { ⌜ At (now t) cores processes k p (disable (guards-at (now t) cores p) (index-at (now t) cores p) (ready-at (now t) cores p)) ⌝ }
-    ensures { λ r. ⌜ Does
-        (disable-step p (guards-at (now (t .entry)) cores p) (index-at (now (t .entry)) cores p) (ready-at (now (t .entry)) cores p))
-        (now (t .entry)) r (now (t .exit)) ⌝ }
+    requires { ⌜ AtDisabling disable (now t) cores processes k p ⌝ }
+    ensures { λ r. ⌜ DoesDisabling disable-step (now (t .entry)) cores p r (now (t .exit)) ⌝ }
 {
     let found = words::who_stands(guards::guard_word(t, cores, processes, p));
     match found {
@@ -94,16 +92,17 @@ pub fn disable_step(t: &mut [u32], cores: usize, processes: usize, k: usize, p: 
 
 // Lower: count - 1.
 pub fn lower_step(t: &mut [u32], cores: usize, processes: usize, k: usize, p: u32) -> Reply
-    requires { ⌜ At (now t) cores processes k p (lower (guards-at (now t) cores p) (index-at (now t) cores p) (ready-at (now t) cores p)) ⌝ }
-    ensures { λ r. ⌜ Does (lower-step p (guards-at (now (t .entry)) cores p) (index-at (now (t .entry)) cores p) (ready-at (now (t .entry)) cores p))
-        (now (t .entry)) r (now (t .exit)) ⌝ }
+    requires { ⌜ AtDisabling lower (now t) cores processes k p ⌝ }
+    ensures { λ r. ⌜ DoesDisabling lower-step (now (t .entry)) cores p r (now (t .exit)) ⌝ }
 {
     let count = table::process_word(t, cores, p, layout::PROCESS_COUNT);
-    if count == 0 {
-        return answers::refused(answers::FAULT);
+    match guards::lowered(count) {
+        Change::Fault => answers::refused(answers::FAULT),
+        Change::To(n) => {
+            table::set_process_word(t, cores, p, layout::PROCESS_COUNT, n);
+            guards::next_guard(t, cores, p, layout::AT_DISABLE, layout::AT_FINISH)
+        }
     }
-    table::set_process_word(t, cores, p, layout::PROCESS_COUNT, count - 1);
-    guards::next_guard(t, cores, p, layout::AT_DISABLE, layout::AT_FINISH)
 }
 
 // Finish: no ready guard is a fault; count - 1; at 0 CHOSE with the first ready guard; above 0 asleep, with CHOSE due.
@@ -117,16 +116,18 @@ pub fn finish_step(t: &mut [u32], cores: usize, processes: usize, k: usize, p: u
     if ready == 0 {
         return answers::refused(answers::FAULT);
     }
-    if count == 0 {
-        return answers::refused(answers::FAULT);
-    }
-    let c = guards::guard(t, cores, p, ready);
-    table::set_process_word(t, cores, p, layout::PROCESS_COUNT, count - 1);
-    if count == 1 {
-        parts::reports(t, cores, p, layout::DUE_CHOSE, c)
-    } else {
-        parts::set_due(t, cores, p, layout::DUE_CHOSE, c);
-        parts::falls_asleep(t, cores, k, p, layout::TASK_NONE, 0)
+    match guards::lowered(count) {
+        Change::Fault => answers::refused(answers::FAULT),
+        Change::To(left) => {
+            let c = guards::guard(t, cores, p, ready);
+            table::set_process_word(t, cores, p, layout::PROCESS_COUNT, left);
+            if left == 0 {
+                parts::reports(t, cores, p, layout::DUE_CHOSE, c)
+            } else {
+                parts::set_due(t, cores, p, layout::DUE_CHOSE, c);
+                parts::falls_asleep(t, cores, k, p, layout::TASK_NONE, 0)
+            }
+        }
     }
 }
 
@@ -157,17 +158,18 @@ pub fn trigger_step(t: &mut [u32], cores: usize, processes: usize, k: usize, q: 
     ensures { λ r. ⌜ Does (trigger-step k q) (now (t .entry)) r (now (t .exit)) ⌝ }
 {
     let count = table::process_word(t, cores, q, layout::PROCESS_COUNT);
-    if count == 0 {
-        return answers::refused(answers::FAULT);
+    match guards::lowered(count) {
+        Change::Fault => answers::refused(answers::FAULT),
+        Change::To(n) => {
+            let waiting = table::process_word(t, cores, q, layout::PROCESS_WAITING);
+            set_triggered(t, cores, q, n);
+            if waiting == 1 {
+                next_task(t, k, layout::TASK_WAKE, q)
+            } else if n == 0 {
+                next_task(t, k, layout::TASK_WAKE, q)
+            } else {
+                next_task(t, k, layout::TASK_NONE, 0)
+            }
+        }
     }
-    let left = count - 1;
-    let waiting = table::process_word(t, cores, q, layout::PROCESS_WAITING);
-    set_triggered(t, cores, q, left);
-    if waiting == 1 {
-        return next_task(t, k, layout::TASK_WAKE, q);
-    }
-    if left == 0 {
-        return next_task(t, k, layout::TASK_WAKE, q);
-    }
-    next_task(t, k, layout::TASK_NONE, 0)
 }

@@ -1,5 +1,5 @@
 -- What the steps of enabling come to: by a word that the code reads, the words that it writes then.
-use Prim.Native.Nat.{ℕ, _+_, _-_, _≤_, _<_, _^_}
+use Prim.Native.Nat.{ℕ, _+_, _≤_, _<_, _^_}
 use mathlib.Core.Path.{_≡_, refl, sym, ap, _∙_, subst}
 use mathlib.Core.Bool.{false}
 use mathlib.Core.List.{List, [], _∷_}
@@ -12,17 +12,19 @@ use Rattle.rules.specs.Items.{process-of, channel-of, put, alternation, progres
 use Rattle.rules.specs.Rule.{Rule, run, becomes, _>>_}
 use Rattle.rules.specs.Steps.{next}
 use Rattle.rules.specs.Choice.{guard, counting, flags, enable-next, after-enable-look, enable-look-step, name-placed, place-name-step, raise-step}
-use Rattle.rules.specs.Choice.{ready-from-look-step, ready-from-place-step}
+use Rattle.rules.specs.Choice.{ready-from-look-step, ready-from-place-step, lowered, raised}
 use Rattle.rules.specs.Layout.{process-at, channel-at, at-enable-look, at-place-name, at-raise, at-ready-from-look, at-ready-from-place}
 use Rattle.rules.specs.Layout.{at-wait, channel-holder, process-count, process-not-ready, process-progress}
 use Rattle.rules.specs.Packing.{of-choice, progress-words, pack, view, word-number}
 use Rattle.answers.specs.Four.{four}
 use Rattle.answers.specs.declared.Reply.{Reply}
 use Rattle.parts.specs.Does.{At, Comes, Does}
-use Rattle.parts.proofs.Card.{facts, stage-valid}
-use Rattle.guards.specs.Read.{word-of, guard-word-at, AtGuard, next-table}
-use Rattle.guards.proofs.Guards.{in-alternation, Chooses, at-chooses, count-is, same-guard, next-packs, alternation-chooses, word-chooses}
-use Rattle.guards.proofs.Rules.{lowered-fault, lowered-on, raised-fault, raised-on}
+use Rattle.parts.proofs.Card.{facts}
+use Rattle.guards.specs.declared.Change.the-variants.{Fault, To}
+use Rattle.guards.specs.Change.{changes}
+use Rattle.guards.specs.Read.{count-at, counted-table, guard-word-at, AtGuard, next-table, ready-table}
+use Rattle.guards.proofs.Guards.{in-alternation, Chooses, count-is, same-guard, next-packs, alternation-chooses, word-chooses}
+use Rattle.guards.proofs.Rules.{by-count}
 use Rattle.guards.proofs.Stands.{Stands, enabling-stands, guard-among, guard-is, has-guard, word-is, free-word, number-small}
 
 -- From a guard that is enabled the choice goes to the next.
@@ -37,7 +39,7 @@ module _ {t : List ℕ} {cores processes k p : ℕ} {gs : List ℕ} {i : ℕ} wh
   module _ (at : At t cores processes k p (enable-look gs i)) where
     look-stands : Stands t cores processes k p at-enable-look gs i none
     unfolding progress-words
-    look-stands = enabling-stands at at-enable-look gs i refl (stage-valid t cores processes k p (enable-look gs i) at)
+    look-stands = enabling-stands at refl refl
 
     pub look-guard : AtGuard t cores processes p
     look-guard = has-guard look-stands
@@ -69,35 +71,31 @@ module _ {t : List ℕ} {cores processes k p : ℕ} {gs : List ℕ} {i : ℕ} wh
   -- Raise
 
   module _ (at : At t cores processes k p (raise gs i)) where
-    raise-chooses : Chooses t cores processes (view t) p at-raise gs i none
+    raise-stands : Stands t cores processes k p at-raise gs i none
     unfolding progress-words
-    raise-chooses = at-chooses at at-raise gs i none refl
+    raise-stands = enabling-stands at refl refl
 
-    pub raise-small : word-of t cores p process-count ≤ 9
+    pub raise-small : count-at t cores p ≤ 9
     raise-small =
-        let among = raise-chooses .among in
-        rw (count-is raise-chooses) (facts t (at .card .is-sound) .processes p (among .0) (among .1) .count)
+        let among = raise-stands .chooses .among in
+        rw (count-is (raise-stands .chooses)) (facts t (at .card .is-sound) .processes p (among .0) (among .1) .count)
 
     -- what follows the count
     abbrev raising : ℕ → Rule Answer
     raising n = becomes alternation p (counting n (process-of (view t) p .alternation)) >> next p (place-name gs i)
 
-    -- the count is 9
-    pub raise-fault : {r : Reply} {u : List ℕ} → word-of t cores p process-count ≡ 9 → r ≡ four (no-because FAULT) → u ≡ t
+    pub raise-fault : {r : Reply} {u : List ℕ} → changes Fault ≡ raised (count-at t cores p) → r ≡ four (no-because FAULT) → u ≡ t
         → Does (raise-step p gs i) t r u
-    raise-fault {r} {u} e a b =
-        raised-fault (view t) t raising r u (process-of (view t) p .alternation .count) (sym (count-is raise-chooses) ∙ e) a b
+    raise-fault {r} {u} made a b = by-count (raise-stands .chooses .packs) p (raise-stands .chooses .among) raised raising Fault made r u (a, b)
 
-    -- it is less
-    pub raise-done : {r : Reply} {u : List ℕ} → (word-of t cores p process-count ≡ 9 → ⊥) → r ≡ four (yes-with MOVED)
-        → u ≡ set (set t (process-at cores p process-count) (word-of t cores p process-count + 1)) (process-at cores p process-progress) at-place-name → Does (raise-step p gs i) t r u
+    pub raise-done : {n : ℕ} {r : Reply} {u : List ℕ} → changes (To n) ≡ raised (count-at t cores p) → r ≡ four (yes-with MOVED)
+        → u ≡ set (counted-table t cores p n) (process-at cores p process-progress) at-place-name → Does (raise-step p gs i) t r u
     unfolding progress-words
-    raise-done {r} {u} ne a b =
-        let alt = process-of (view t) p .alternation in
-        raised-on (view t) t raising r u (alt .count) (λ e. ne (count-is raise-chooses ∙ e)) (
+    raise-done {n} {r} {u} made a b =
+        by-count (raise-stands .chooses .packs) p (raise-stands .chooses .among) raised raising (To n) made r u (
           a,
-          b ∙ same-guard (alternation-chooses raise-chooses (counting (alt .count + 1) alt)
-              ((in-alternation process-count, word-of t cores p process-count + 1) ∷ []) tt (rw (count-is raise-chooses))) (place-name gs i) at-place-name refl,
+          b ∙ same-guard (alternation-chooses (raise-stands .chooses) (counting n (process-of (view t) p .alternation))
+              ((in-alternation process-count, n) ∷ []) tt refl) (place-name gs i) at-place-name refl,
         )
 
   -- Place
@@ -105,7 +103,7 @@ module _ {t : List ℕ} {cores processes k p : ℕ} {gs : List ℕ} {i : ℕ} wh
   module _ (at : At t cores processes k p (place-name gs i)) where
     place-stands : Stands t cores processes k p at-place-name gs i none
     unfolding progress-words
-    place-stands = enabling-stands at at-place-name gs i refl (stage-valid t cores processes k p (place-name gs i) at)
+    place-stands = enabling-stands at refl refl
 
     pub place-guard : AtGuard t cores processes p
     place-guard = has-guard place-stands
@@ -115,11 +113,14 @@ module _ {t : List ℕ} {cores processes k p : ℕ} {gs : List ℕ} {i : ℕ} wh
 
     -- the word is nobody's
     pub place-free : {r : Reply} {u : List ℕ} → getD t (guard-word-at t cores processes p) 0 ≡ 0 → r ≡ four (yes-with MOVED)
-        → u ≡ next-table (set t (guard-word-at t cores processes p) (word-number (choosing p))) cores p at-enable-look at-wait → Does (place-name-step p gs i) t r u
+        → u ≡ next-table (set t (guard-word-at t cores processes p) (word-number (choosing p))) cores p at-enable-look at-wait
+        → Does (place-name-step p gs i) t r u
     place-free {r} {u} e a b =
         subst (λ (w : ChannelWord). Comes (run (name-placed p gs i w) (view t)) t r u) (sym (free-word place-stands e)) (
           a,
-          b ∙ ap (λ (c : ℕ). next-table (set t (channel-at cores processes c channel-holder) (word-number (choosing p))) cores p at-enable-look at-wait) (guard-is place-stands)
+          b
+              ∙ ap (λ (c : ℕ). next-table (set t (channel-at cores processes c channel-holder) (word-number (choosing p))) cores p at-enable-look at-wait)
+              (guard-is place-stands)
               ∙ enabled-packs (word-chooses (place-stands .chooses) (guard gs i) (guard-among place-stands) (choosing p)),
         )
 
@@ -140,39 +141,42 @@ module _ {t : List ℕ} {cores processes k p : ℕ} {gs : List ℕ} {i : ℕ} wh
   -- Ready
 
   module _ (at : At t cores processes k p (ready-from-look gs i)) where
-    ready-look-chooses : Chooses t cores processes (view t) p at-ready-from-look gs i none
+    ready-look-stands : Stands t cores processes k p at-ready-from-look gs i none
     unfolding progress-words
-    ready-look-chooses = at-chooses at at-ready-from-look gs i none refl
+    ready-look-stands = enabling-stands at refl refl
 
-    pub ready-look-done : {r : Reply} {u : List ℕ} → r ≡ four (yes-with MOVED) → u ≡ next-table (set t (process-at cores p process-not-ready) 0) cores p at-enable-look at-wait
-        → Does (ready-from-look-step p gs i) t r u
+    pub ready-look-done : {r : Reply} {u : List ℕ} → r ≡ four (yes-with MOVED)
+        → u ≡ ready-table t cores p → Does (ready-from-look-step p gs i) t r u
     ready-look-done a b =
-        let alt = process-of (view t) p .alternation in
-        (a, b ∙ enabled-packs (alternation-chooses ready-look-chooses (flags (alt .enabling) false (alt .waiting) alt) ((in-alternation process-not-ready, 0) ∷ []) tt refl))
+        let alt = process-of (view t) p .alternation in (
+          a,
+          b ∙ enabled-packs (alternation-chooses (ready-look-stands .chooses) (flags (alt .enabling) false (alt .waiting) alt)
+              ((in-alternation process-not-ready, 0) ∷ []) tt refl),
+        )
 
   module _ (at : At t cores processes k p (ready-from-place gs i)) where
-    ready-place-chooses : Chooses t cores processes (view t) p at-ready-from-place gs i none
+    ready-place-stands : Stands t cores processes k p at-ready-from-place gs i none
     unfolding progress-words
-    ready-place-chooses = at-chooses at at-ready-from-place gs i none refl
+    ready-place-stands = enabling-stands at refl refl
 
     -- its alternation state with another count, and ready
     abbrev readied : ℕ → Alternation
     readied n = let alt = process-of (view t) p .alternation in flags (alt .enabling) false (alt .waiting) (counting n alt)
 
+    -- what follows the count
     abbrev readying : ℕ → Rule Answer
     readying n = becomes alternation p (readied n) >> next p (enable-next gs i)
 
-    pub ready-place-fault : {r : Reply} {u : List ℕ} → word-of t cores p process-count ≡ 0 → r ≡ four (no-because FAULT) → u ≡ t
+    pub ready-place-fault : {r : Reply} {u : List ℕ} → changes Fault ≡ lowered (count-at t cores p) → r ≡ four (no-because FAULT) → u ≡ t
         → Does (ready-from-place-step p gs i) t r u
-    ready-place-fault {r} {u} e a b =
-        lowered-fault (view t) t readying r u (process-of (view t) p .alternation .count) (sym (count-is ready-place-chooses) ∙ e) a b
+    ready-place-fault {r} {u} made a b =
+        by-count (ready-place-stands .chooses .packs) p (ready-place-stands .chooses .among) lowered readying Fault made r u (a, b)
 
-    pub ready-place-done : {r : Reply} {u : List ℕ} → (word-of t cores p process-count ≡ 0 → ⊥) → r ≡ four (yes-with MOVED)
-        → u ≡ next-table (set (set t (process-at cores p process-not-ready) 0) (process-at cores p process-count) (word-of t cores p process-count - 1)) cores p at-enable-look at-wait
-        → Does (ready-from-place-step p gs i) t r u
-    ready-place-done {r} {u} ne a b =
-        lowered-on (view t) t readying r u (process-of (view t) p .alternation .count) (λ e. ne (count-is ready-place-chooses ∙ e)) (
+    pub ready-place-done : {n : ℕ} {r : Reply} {u : List ℕ} → changes (To n) ≡ lowered (count-at t cores p) → r ≡ four (yes-with MOVED)
+        → u ≡ ready-table (counted-table t cores p n) cores p → Does (ready-from-place-step p gs i) t r u
+    ready-place-done {n} {r} {u} made a b =
+        by-count (ready-place-stands .chooses .packs) p (ready-place-stands .chooses .among) lowered readying (To n) made r u (
           a,
-          b ∙ enabled-packs (alternation-chooses ready-place-chooses (readied (process-of (view t) p .alternation .count - 1))
-              ((in-alternation process-not-ready, 0) ∷ (in-alternation process-count, word-of t cores p process-count - 1) ∷ []) tt (rw (count-is ready-place-chooses))),
+          b ∙ enabled-packs (alternation-chooses (ready-place-stands .chooses) (readied n)
+              ((in-alternation process-count, n) ∷ (in-alternation process-not-ready, 0) ∷ []) tt refl),
         )

@@ -104,12 +104,12 @@ module _ {t : List ℕ} {cores processes : ℕ} {s : State} {p n : ℕ} {gs : Li
   -- at the same guard
   pub same-guard : (x : Stage) (n′ : ℕ) → progress-words (doing x) ≡ of-choice n′ gs i r
       → set t (process-at cores p process-progress) n′ ≡ pack (put progress p (doing x) s)
-  same-guard x n′ words = stage-packs x n′ i r ((0, n′) ∷ []) tt refl words .is-pack
+  same-guard x n′ words = stage-packs x n′ i r ((in-progress process-progress, n′) ∷ []) tt refl words .is-pack
 
   -- at another guard
   pub other-guard : (x : Stage) (n′ i′ : ℕ) → progress-words (doing x) ≡ of-choice n′ gs i′ r
       → Packs (stage-table t cores p i′ n′) cores processes (put progress p (doing x) s)
-  other-guard x n′ i′ words = stage-packs x n′ i′ r ((in-progress process-index, i′) ∷ (0, n′) ∷ []) tt refl words
+  other-guard x n′ i′ words = stage-packs x n′ i′ r ((in-progress process-index, i′) ∷ (in-progress process-progress, n′) ∷ []) tt refl words
 
   -- at the next guard, or after the last one
   pub next-packs : (x y : Stage) (again after : ℕ) → progress-words (doing x) ≡ of-choice again gs (i + 1) r

@@ -1,23 +1,28 @@
 -- What a rule comes to that reads a count or a channel word, by the number in the table.
-use Prim.Native.Nat.{ℕ, zero, suc, _+_, _-_, _≤_}
-use mathlib.Core.Path.{_≡_, refl, subst}
+use Prim.Native.Nat.{ℕ, _≤_}
+use mathlib.Core.Path.{_≡_, refl, sym, ap, _∙_, subst}
 use mathlib.Core.List.{List}
 use mathlib.Core.Option.{Option, none, some}
 use native.Mathlib.Omega.{arith}
-use borrow.Author.Tests.{eq-eqb, ne-eqb}
-use lib.Dec.{T, eqb}
+use lib.Dec.{T, eqb, lit<}
 use lib.ListN.{length}
 use Rattle.rules.specs.Lists.{if_then_else_}
 use Rattle.rules.specs.Numbers.{Answer, FAULT, no-because}
 use Rattle.rules.specs.State.{ChannelWord, nobody, plain, choosing, State, Wiring}
 use Rattle.rules.specs.Rule.{Rule, run, _>>=_}
-use Rattle.rules.specs.Choice.{guard, lowered, raised, keep-first, first-ready}
+use Rattle.rules.specs.Choice.{guard, keep-first, first-ready}
+use Rattle.rules.specs.Items.{process-of}
+use Rattle.rules.specs.Layout.{process-count}
 use Rattle.rules.specs.Packing.{word-number, ready-number}
 use Rattle.rules.specs.Soundness.{ready-in-list, valid-word}
 use Rattle.rules.proofs.Tests.{within-means, not-zero}
 use Rattle.answers.specs.Four.{four}
 use Rattle.answers.specs.declared.Reply.{Reply}
 use Rattle.parts.specs.Does.{Comes}
+use Rattle.parts.proofs.Packs.{Packs, IsProcess, process-read}
+use Rattle.guards.specs.declared.Change.{Change}
+use Rattle.guards.specs.Change.{changes}
+use Rattle.guards.specs.Read.{count-at}
 
 -- a valid channel word of number 0 is nobody's
 pub word-nobody : (w : Wiring) (x : ChannelWord) → T (valid-word w x) → word-number x ≡ 0 → x ≡ nobody
@@ -37,25 +42,17 @@ pub kept-number : (gs : List ℕ) (r : Option ℕ) (i : ℕ) → T (ready-in-lis
 kept-number gs none i h = refl
 kept-number gs (some j) i h = rw (not-zero j (within-means 1 (length gs) j h .0))
 
+-- What becomes of the count that the code reads as m becomes of n, and so of the count of process p.
+pub now-changes : {found to : Change} {m n : ℕ} (rule : ℕ → Rule ℕ) → found ≡ to → m ≡ n → changes found ≡ rule m → changes to ≡ rule n
+now-changes rule finds reads made = sym (ap changes finds) ∙ made ∙ ap rule reads
+
+pub by-count : {t : List ℕ} {cores processes : ℕ} {s : State} → Packs t cores processes s → (p : ℕ) → IsProcess s p
+    → (rule : ℕ → Rule ℕ) (f : ℕ → Rule Answer) (to : Change) → changes to ≡ rule (count-at t cores p) → (r : Reply) (u : List ℕ)
+    → Comes (run (changes to >>= f) s) t r u → Comes (run (rule (process-of s p .alternation .count) >>= f) s) t r u
+by-count {t} {s = s} packs p is rule f to made r u =
+    subst (λ (x : Rule ℕ). Comes (run (x >>= f) s) t r u) (made ∙ ap rule (process-read packs p is process-count (lit< tt)))
+
 module _ (s : State) (t : List ℕ) (f : ℕ → Rule Answer) (r : Reply) (u : List ℕ) where
-  -- a count of 0 can't be lowered
-  pub lowered-fault : (n : ℕ) → n ≡ 0 → r ≡ four (no-because FAULT) → u ≡ t → Comes (run (lowered n >>= f) s) t r u
-  lowered-fault zero e a b = (a, b)
-  lowered-fault (suc n) e a b = absurd (omega arith)
-
-  -- any other can
-  pub lowered-on : (n : ℕ) → (n ≡ 0 → ⊥) → Comes (run (f (n - 1)) s) t r u → Comes (run (lowered n >>= f) s) t r u
-  lowered-on zero there h = absurd (there refl)
-  lowered-on (suc n) there h = let e : suc n - 1 ≡ n = omega arith in subst (λ (m : ℕ). Comes (run (f m) s) t r u) e h
-
-  -- a count of 9 can't be raised
-  pub raised-fault : (n : ℕ) → n ≡ 9 → r ≡ four (no-because FAULT) → u ≡ t → Comes (run (raised n >>= f) s) t r u
-  raised-fault n e a b = rw (eq-eqb n 9 e) (a, b)
-
-  -- any other can
-  pub raised-on : (n : ℕ) → (n ≡ 9 → ⊥) → Comes (run (f (n + 1)) s) t r u → Comes (run (raised n >>= f) s) t r u
-  raised-on n less h = rw (ne-eqb n 9 less) h
-
   -- no guard is ready
   pub first-fault : (gs : List ℕ) (x : Option ℕ) → T (ready-in-list gs x) → ready-number x ≡ 0 → r ≡ four (no-because FAULT) → u ≡ t
       → Comes (run (first-ready gs x >>= f) s) t r u

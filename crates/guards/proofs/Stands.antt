@@ -1,5 +1,5 @@
 -- A process that runs, and is at a guard of its choice: what is known of that guard and its channel.
-use Prim.Native.Nat.{ℕ, _+_, _≤_, _<_, _^_}
+use Prim.Native.Nat.{ℕ, _≤_, _<_, _^_}
 use mathlib.Core.Path.{_≡_, sym, ap, _∙_, subst}
 use mathlib.Core.List.{List}
 use mathlib.Core.Option.{Option, none}
@@ -12,10 +12,10 @@ use Rattle.rules.specs.Items.{channel-of}
 use Rattle.rules.specs.Choice.{guard}
 use Rattle.rules.specs.Layout.{channel-holder}
 use Rattle.rules.specs.Packing.{of-choice, progress-words, view, word-number, word-numbered}
-use Rattle.rules.specs.Soundness.{own-end, own-guards, in-list, ready-in-list, valid-enabling, valid-disabling, valid-word}
+use Rattle.rules.specs.Soundness.{own-end, own-guards, in-list, ready-in-list, valid-enabling, valid-disabling, valid-stage, valid-word}
 use Rattle.rules.proofs.Tests.{both, three, within-means}
 use Rattle.parts.specs.Does.{Card, At}
-use Rattle.parts.proofs.Card.{facts, card-core, card-process, card-channel, name-fits, runs-process}
+use Rattle.parts.proofs.Card.{facts, card-core, card-process, card-channel, name-fits, stage-valid, runs-process}
 use Rattle.parts.proofs.Packs.{IsChannel, channel-read, who-stands}
 use Rattle.table.specs.Has.{HasCore, HasProcess, HasChannel}
 use Rattle.guards.specs.Read.{word-of, guard-place, guard-at, guard-word-at, AtGuard}
@@ -36,21 +36,21 @@ pub record Stands (t : List ℕ) (cores processes k p n : ℕ) (gs : List ℕ) (
   pub chooses : Chooses t cores processes (view t) p n gs i r
   pub own : T (own-guards (wiring (view t)) p gs)
   pub inside : T (in-list gs i)
+  pub ready : T (ready-in-list gs r)
 
-module _ {t : List ℕ} {cores processes k p : ℕ} {x : Stage} (at : At t cores processes k p x) (n : ℕ) (gs : List ℕ) (i : ℕ) where
-  -- before the wait
-  pub enabling-stands : progress-words (doing x) ≡ of-choice n gs i none → T (valid-enabling (wiring (view t)) p gs i)
-      → Stands t cores processes k p n gs i none
-  enabling-stands words h =
-      let parts = both (own-guards (wiring (view t)) p gs) (in-list gs i) h in
-      record { card = at .card; chooses = at-chooses at n gs i none words; own = parts .0; inside = parts .1 }
+-- so it is at each stage that enables a guard, and at each that disables one, by the words and the validity of their shape
+module _ {t : List ℕ} {cores processes k p : ℕ} {x : Stage} (at : At t cores processes k p x) {n : ℕ} {gs : List ℕ} {i : ℕ} where
+  pub enabling-stands : progress-words (doing x) ≡ of-choice n gs i none
+      → valid-stage (wiring (view t)) p x ≡ valid-enabling (wiring (view t)) p gs i → Stands t cores processes k p n gs i none
+  enabling-stands words valid =
+      let parts = both (own-guards (wiring (view t)) p gs) (in-list gs i) (rw valid at (stage-valid t cores processes k p x at)) in
+      record { card = at .card; chooses = at-chooses at n gs i none words; own = parts .0; inside = parts .1; ready = tt }
 
-  -- after it
-  pub disabling-stands : (r : Option ℕ) → progress-words (doing x) ≡ of-choice n gs i r → T (valid-disabling (wiring (view t)) p gs i r)
-      → Stands t cores processes k p n gs i r
-  disabling-stands r words h =
-      let parts = three (own-guards (wiring (view t)) p gs) (in-list gs i) (ready-in-list gs r) h in
-      record { card = at .card; chooses = at-chooses at n gs i r words; own = parts .0; inside = parts .1 }
+  pub disabling-stands : {r : Option ℕ} → progress-words (doing x) ≡ of-choice n gs i r
+      → valid-stage (wiring (view t)) p x ≡ valid-disabling (wiring (view t)) p gs i r → Stands t cores processes k p n gs i r
+  disabling-stands {r} words valid =
+      let parts = three (own-guards (wiring (view t)) p gs) (in-list gs i) (ready-in-list gs r) (rw valid at (stage-valid t cores processes k p x at)) in
+      record { card = at .card; chooses = at-chooses at n gs i r words; own = parts .0; inside = parts .1; ready = parts .2 }
 
 module _ {t : List ℕ} {cores processes k p n : ℕ} {gs : List ℕ} {i : ℕ} {r : Option ℕ} (h : Stands t cores processes k p n gs i r) where
   -- the index is one of the guards'

@@ -1,14 +1,43 @@
-// The guards of the choice of process p, and going from one to the next (document 01).
+// The count and the guards of the choice of process p, and going from one guard to the next (document 01).
 ghost use mathlib.Core.Path.{_≡_};
 ghost use Prim.Native.Nat.{_+_, _≤_, _<_};
 ghost use lib.ListN.{length, getD, set};
 ghost use Rattle.rules.specs.Numbers.{MOVED, yes-with};
+ghost use Rattle.rules.specs.Choice.{lowered, raised};
 ghost use Rattle.rules.specs.Layout.{process-at};
 ghost use Rattle.answers.specs.Four.{four};
 ghost use Rattle.table.specs.Has.{HasProcess};
+ghost use Rattle.guards.specs.Change.{changes};
 ghost use Rattle.guards.specs.Read.{word-of, guard-place, guard-at, guard-word-at, AtGuard};
 ghost use Rattle.guards.specs.Read.{stage-table, next-table};
 use answers::Reply;
+
+// What becomes of a count: a fault, or another count.
+pub enum Change {
+    Fault,
+    To(u32),
+}
+
+// Lowers a count: count - 1; at 0 a fault.
+pub fn lowered(count: u32) -> Change
+    ensures { λ r. ⌜ changes r ≡ lowered count ⌝ }
+{
+    if count == 0 {
+        return Change::Fault;
+    }
+    Change::To(count - 1)
+}
+
+// Raises a count: count + 1; at 9 a fault.
+pub fn raised(count: u32) -> Change
+    requires { ⌜ count ≤ 9 ⌝ }
+    ensures { λ r. ⌜ changes r ≡ raised count ⌝ }
+{
+    if count == 9 {
+        return Change::Fault;
+    }
+    Change::To(count + 1)
+}
 
 // The guard at index i, counted from 1.
 pub fn guard(t: &[u32], cores: usize, p: u32, i: u32) -> u32

@@ -1,19 +1,11 @@
-use native.Mathlib.Omega.{arith}
 use Rattle.guards.proofs.Stands.{at-process}
 use Rattle.enabling.proofs.Enabling.{ready-look-done}
 use borrow.Author.Needs.{needs}
 use Rattle.enabling.proofs.ready_from_look_step.Statement.{statement}
 use Rattle.enabling.proofs.ready_from_look_step.Tie as tie
 
-set-process-word-requires : tie.Need-set-process-word-requires
-set-process-word-requires c κs =
-    let h = at-process (c .before .before .pre) in
-    omega arith
-
-next-guard-requires : tie.Need-next-guard-requires
-next-guard-requires c κs =
-    let h = at-process (c .before .before .before .before .before .before .pre) in
-    omega arith
+goes-on-ready-requires : tie.Need-goes-on-ready-requires
+goes-on-ready-requires c κs = search (needs, at-process)
 
 same-length : tie.Need-same-length
 same-length c = search needs
@@ -21,8 +13,7 @@ same-length c = search needs
 returns : tie.Need-returns
 returns c =
     let went = c .before .before in
-    ready-look-done (went .before .before .before .before .before .before .before .pre) (went .next-guard .ensures .1) (cc)
+    ready-look-done (went .before .before .before .pre) (went .goes-on-ready .ensures .1) (went .goes-on-ready .ensures .0)
 
 pub ready-from-look-step-spec : {M : Type 1} → statement M
-ready-from-look-step-spec =
-    tie.close (tie.spec set-process-word-requires next-guard-requires same-length returns)
+ready-from-look-step-spec = tie.close (tie.spec goes-on-ready-requires same-length returns)
