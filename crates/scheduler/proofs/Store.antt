@@ -1,7 +1,7 @@
 -- Store: what it comes to.
 use Prim.Native.Nat.{ℕ}
 use mathlib.Core.Path.{_≡_, sym, _∙_, subst}
-use mathlib.Core.List.{List, _∷_}
+use mathlib.Core.List.{List}
 use lib.Dec.{lit<}
 use Rattle.rules.specs.Numbers.{MOVED, yes-with}
 use Rattle.rules.specs.Items.{core-of}

@@ -10,16 +10,15 @@ use lib.Seq.{sets, sets-eq}
 use borrow.Author.Tests.{lt-ltb, le-ltb, ltb-true, ltb-false}
 use Rattle.rules.specs.Lists.{if_then_else_}
 use Rattle.rules.specs.State.{State}
-use Rattle.rules.specs.Items.{core-of, channel-of}
-use Rattle.rules.specs.Layout.{room, core-at, process-at, channel-at}
+use Rattle.rules.specs.Items.{channel-of}
+use Rattle.rules.specs.Layout.{header-size, core-stride, core-at, process-at, channel-at, room, header-cores, header-processes, header-channels, header-spare, process-place, process-progress, channel-writer, channel-reader, place-queued, due-go}
 use Rattle.rules.specs.SetUp.{ends-of, new-core, new-process, new-channel, set-up-state}
-use Rattle.rules.specs.Packing.{header-words, core-words, process-words, channel-words, pack}
+use Rattle.rules.specs.Packing.{spare, header-words, process-words, channel-words, pack}
 use Rattle.rules.proofs.Tests.{here-or-there}
 use Rattle.rules.proofs.Packing.Regions.{Dims, Words, Holds, Same, held-once}
 use Rattle.rules.proofs.Packing.Blocks.{dims, words-of, pack-holds, first-part, second-part}
 use Rattle.packing.proofs.Focus.{
   Region,
-  cores,
   processes,
   channels,
   size-in,
@@ -36,7 +35,9 @@ use Rattle.packing.proofs.Focus.{
 }
 use Rattle.rules.proofs.Tabulate.{length-tabulate}
 use Rattle.rules.proofs.Validity.SetUp.{ends-length}
-use Rattle.set_up.specs.Filled.{up-to, last-of, in-turn, header-filled, core-filled, process-filled, channel-filled, Ready}
+use Rattle.parts.proofs.Packs.{Packs}
+use Rattle.set_up.specs.Filled.{in-turn, header-filled, process-filled, channel-filled, in-batches, CanStandAlone, Ready}
+use Rattle.set_up.proofs.Batches.{batched, can-stand, all-stand}
 use Rattle.set_up.proofs.NewState.{new-core-words, new-process-words, new-channel-words}
 
 -- Zeros
@@ -113,50 +114,36 @@ in-turn-holds d W f a (suc n) t step h =
     (in-turn-holds d W f (suc a) n (f a t) (λ i low high. step i (omega arith) (omega arith)) (step a (omega arith) (omega arith) t h))
 
 module _ (k n m : ℕ) (pairs : List ℕ) (some-core : 0 < k) (paired : length pairs ≡ 2 * m) where
+  -- the state before its processes stand in batches
   abbrev s : State
-  s = set-up-state k n pairs
+  s = batched k n pairs some-core 0
 
   abbrev d : Dims
   d = record { K = k; N = n; M = m }
 
   dims-of : dims s ≡ d
   dims-of = λ i. record {
-    K = length-tabulate (new-core k n) 0 k i;
+    K = length-tabulate (new-core k 0) 0 k i;
     N = length-tabulate new-process 1 n i;
     M = (length-map (ends-of pairs) new-channel ∙ ends-length pairs m paired) i;
   }
 
-  -- the words of the state, up to core j, process p and channel c
-  abbrev stage : ℕ → ℕ → ℕ → Words
-  stage j p c =
+  -- the words of the state, up to process p and channel c
+  abbrev stage : ℕ → ℕ → Words
+  stage p c =
       record {
         header = words-of s .header;
-        core = before j (words-of s .core);
+        core = words-of s .core;
         process = before p (words-of s .process);
         channel = before c (words-of s .channel);
       }
 
-  -- one core, one process, one channel more is filled in
-  core-step : (p c j : ℕ) → 0 ≤ j → j < 0 + k → (t : List ℕ)
-      → Holds d (stage j p c) t → Holds d (stage (suc j) p c) (core-filled k n j t)
-  core-step p c j low high t h =
-      fills cores d (stage j p c) (stage (suc j) p c) j ((8, up-to n (j + 1)) ∷ (9, last-of k n j) ∷ [])
-      (core-words (core-of s j)) t (omega arith) tt (λ f. none-from j (words-of s .core) j f (omega arith))
-      (sym (new-core-words k n pairs j (omega arith)))
-      (record {
-        header = λ f b. refl;
-        core = λ i f b b′. one-more j (core-words (core-of s j)) (words-of s .core) i f refl;
-        process = λ i f low b b′. refl;
-        channel = λ i f low b b′. refl;
-      })
-      h
-
-  process-step : (j c p : ℕ) → 1 ≤ p → p < 1 + n → (t : List ℕ)
-      → Holds d (stage j p c) t → Holds d (stage j (suc p) c) (process-filled k n p t)
-  process-step j c p low high t h =
-      fills processes d (stage j p c) (stage j (suc p) c) p ((0, 2) ∷ (6, 20) ∷ (21, p) ∷ (22, 1) ∷ (23, up-to n (p + k)) ∷ [])
+  -- one process, one channel more is filled in
+  process-step : (c p : ℕ) → 1 ≤ p → p < 1 + n → (t : List ℕ) → Holds d (stage p c) t → Holds d (stage (suc p) c) (process-filled k p t)
+  process-step c p low high t h =
+      fills processes d (stage p c) (stage (suc p) c) p ((process-place, place-queued) ∷ (process-progress, due-go) ∷ [])
       (process-words s p) t (omega arith) tt (λ f. none-from p (words-of s .process) p f (omega arith))
-      (sym (new-process-words k n pairs p low (omega arith) some-core))
+      (sym (new-process-words k n pairs some-core p low (omega arith)))
       (record {
         header = λ f b. refl;
         core = λ i f b b′. refl;
@@ -165,12 +152,12 @@ module _ (k n m : ℕ) (pairs : List ℕ) (some-core : 0 < k) (paired : length p
       })
       h
 
-  channel-step : (j p c : ℕ) → 1 ≤ c → c < 1 + m → (t : List ℕ)
-      → Holds d (stage j p c) t → Holds d (stage j p (suc c)) (channel-filled k n pairs c t)
-  channel-step j p c low high t h =
-      fills channels d (stage j p c) (stage j p (suc c)) c ((0, getD pairs (2 * (c - 1)) 0) ∷ (1, getD pairs (2 * (c - 1) + 1) 0) ∷ [])
+  channel-step : (p c : ℕ) → 1 ≤ c → c < 1 + m → (t : List ℕ) → Holds d (stage p c) t → Holds d (stage p (suc c)) (channel-filled k n pairs c t)
+  channel-step p c low high t h =
+      fills channels d (stage p c) (stage p (suc c)) c
+      ((channel-writer, getD pairs (2 * (c - 1)) 0) ∷ (channel-reader, getD pairs (2 * (c - 1) + 1) 0) ∷ [])
       (channel-words (channel-of s c)) t (omega arith) tt (λ f. none-from c (words-of s .channel) c f (omega arith))
-      (sym (new-channel-words k n pairs c low (omega arith)))
+      (sym (new-channel-words k n pairs some-core c low (omega arith)))
       (record {
         header = λ f b. refl;
         core = λ i f b b′. refl;
@@ -181,64 +168,76 @@ module _ (k n m : ℕ) (pairs : List ℕ) (some-core : 0 < k) (paired : length p
 
   -- the table before: a header, then zeros
   abbrev bare : List ℕ
-  bare = set (set (set (zeros (room k n m)) 0 k) 1 n) 2 m
+  bare = set (set (set (zeros (room k n m)) header-cores k) header-processes n) header-channels m
 
   abbrev tail : List ℕ
-  tail = zeros (16 * k + 24 * n + 4 * m)
+  tail = zeros (room k n m - header-size)
 
   bare-split : bare ≡ header-words s ++ tail
   unfolding header-words
   bare-split =
-      let sum : room k n m ≡ 8 + (16 * k + 24 * n + 4 * m) = omega arith in
-      ap (λ (l : List ℕ). set (set (set l 0 k) 1 n) 2 m)
-      (ap zeros sum ∙ sym (replicate-append-replicate 8 (16 * k + 24 * n + 4 * m) 0))
-      ∙ ap (λ (e : Dims). e .K ∷ e .N ∷ e .M ∷ 0 ∷ 0 ∷ 0 ∷ 0 ∷ 0 ∷ tail) (sym dims-of)
+      let sum : room k n m ≡ header-size + (room k n m - header-size) = omega arith in
+      ap (λ (l : List ℕ). set (set (set l header-cores k) header-processes n) header-channels m)
+      (ap zeros sum ∙ sym (replicate-append-replicate header-size (room k n m - header-size) 0))
+      ∙ ap (λ (e : Dims). e .K ∷ e .N ∷ e .M ∷ spare header-size header-spare ++ tail) (sym dims-of)
 
   -- behind the header stand zeros
-  bare-zeros : (a : ℕ) → 8 ≤ a → getD (header-words s ++ tail) a 0 ≡ 0
+  bare-zeros : (a : ℕ) → header-size ≤ a → getD (header-words s ++ tail) a 0 ≡ 0
   unfolding header-words
   bare-zeros a h =
-      let e : a ≡ 8 + (a - 8) = omega arith in
+      let e : a ≡ header-size + (a - header-size) = omega arith in
       ap (λ (i : ℕ). getD (header-words s ++ tail) i 0) e
-      ∙ second-part (header-words s) tail 8 (a - 8) refl
-      ∙ zeros-at (16 * k + 24 * n + 4 * m) (a - 8)
+      ∙ second-part (header-words s) tail header-size (a - header-size) refl
+      ∙ zeros-at (room k n m - header-size) (a - header-size)
 
-  bare-holds : Holds d (stage 0 1 1) bare
+  bare-holds : Holds d (stage 1 1) bare
   unfolding header-words
   bare-holds =
       rw bare-split
       (record {
-        size = length-append (header-words s) tail ∙ omega (arith, length-zeros (16 * k + 24 * n + 4 * m));
-        header = λ f b. first-part (header-words s) tail 8 f refl b;
-        core = λ i f b b′. bare-zeros (core-at i f) (omega arith) ∙ sym (none-from 0 (words-of s .core) i f (omega arith));
+        size = length-append (header-words s) tail ∙ omega (arith, length-zeros (room k n m - header-size));
+        header = λ f b. first-part (header-words s) tail header-size f refl b;
+        core = λ i f b b′. bare-zeros (core-at i f) (omega arith) ∙ sym (ap (λ (l : List ℕ). getD l f 0) (new-core-words k n pairs some-core i b) ∙ zeros-at core-stride f);
         process = λ i f low b b′. bare-zeros (process-at k i f) (omega arith) ∙ sym (none-from 1 (words-of s .process) i f low);
         channel = λ i f low b b′. bare-zeros (channel-at k n i f) (omega arith) ∙ sym (none-from 1 (words-of s .channel) i f low);
       })
 
   abbrev filled : List ℕ
-  filled = in-turn (channel-filled k n pairs) 1 m (in-turn (process-filled k n) 1 n (in-turn (core-filled k n) 0 k bare))
+  filled = in-turn (channel-filled k n pairs) 1 m (in-turn (process-filled k) 1 n bare)
 
   -- all are filled in
-  filled-holds : Holds d (stage (0 + k) (1 + n) (1 + m)) filled
+  filled-holds : Holds d (stage (1 + n) (1 + m)) filled
   filled-holds =
-      in-turn-holds d (λ c. stage (0 + k) (1 + n) c) (channel-filled k n pairs) 1 m _ (channel-step (0 + k) (1 + n))
-      (in-turn-holds d (λ p. stage (0 + k) p 1) (process-filled k n) 1 n _ (process-step (0 + k) 1)
-      (in-turn-holds d (λ j. stage j 1 1) (core-filled k n) 0 k bare (core-step 1 1) bare-holds))
+      in-turn-holds d (λ c. stage (1 + n) c) (channel-filled k n pairs) 1 m _ (channel-step (1 + n))
+      (in-turn-holds d (λ p. stage p 1) (process-filled k) 1 n bare (process-step 1) bare-holds)
 
   filled-packs : filled ≡ pack s
   filled-packs =
-      held-once d (stage (0 + k) (1 + n) (1 + m)) (words-of s) filled (pack s) filled-holds
+      held-once d (stage (1 + n) (1 + m)) (words-of s) filled (pack s) filled-holds
       (subst (λ (e : Dims). Holds e (words-of s) (pack s)) dims-of (pack-holds s))
       (record {
         header = λ f b. refl;
-        core = λ i f b b′. all-before (0 + k) (words-of s .core) i f (omega arith);
+        core = λ i f b b′. refl;
         process = λ i f low b b′. all-before (1 + n) (words-of s .process) i f (omega arith);
         channel = λ i f low b b′. all-before (1 + m) (words-of s .channel) i f (omega arith);
       })
 
--- What is filled in over zeros in any table of the right size is the packing of the state.
-pub set-up-packs : (k n m : ℕ) (pairs t : List ℕ) → Ready k n m (length pairs) (length t)
-    → in-turn (channel-filled k n pairs) 1 m (in-turn (process-filled k n) 1 n (in-turn (core-filled k n) 0 k
-    (header-filled k n m t)))
-    ≡ pack (set-up-state k n pairs)
-set-up-packs k n m pairs t ready = rw (zeroed t, ready .table) (filled-packs k n m pairs (ready .core) (ready .pairs))
+module _ (k n m : ℕ) (pairs t : List ℕ) (ready : Ready k n m (length pairs) (length t)) where
+  -- what is filled in over zeros in any table of the right size packs the state in which no process stands in a batch
+  abbrev pub written : List ℕ
+  written = in-turn (channel-filled k n pairs) 1 m (in-turn (process-filled k) 1 n (header-filled k n m t))
+
+  written-packs : Packs written k n (batched k n pairs (ready .core) 0)
+  written-packs =
+      record {
+        is-pack = rw (zeroed t, ready .table) (filled-packs k n m pairs (ready .core) (ready .pairs));
+        all-cores = sym (length-tabulate (new-core k 0) 0 k);
+        all-processes = sym (length-tabulate new-process 1 n);
+      }
+
+  -- so each process can come to stand in one, and then it packs the state that set-up builds
+  pub queues-fit : (i : ℕ) → i < n → CanStandAlone (in-batches k i written) k (suc i)
+  queues-fit = can-stand k n pairs (ready .core) (ready .processes) written written-packs
+
+  pub set-up-packs : in-batches k n written ≡ pack (set-up-state k n pairs)
+  set-up-packs = all-stand k n pairs (ready .core) (ready .processes) written written-packs

@@ -1,6 +1,6 @@
 pub mod Answers
+pub mod Batches
 pub mod Filling
-pub mod Heads
 pub mod NewState
 pub mod Pairs
 pub mod Turns

@@ -2,28 +2,15 @@
 ghost use mathlib.Core.Path.{_≡_};
 ghost use mathlib.Core.List.{[], _∷_};
 ghost use mathlib.Core.Option.{none};
-ghost use Prim.Native.Nat.{_+_, _*_, _≤_};
+ghost use Prim.Native.Nat.{ℕ, suc, _*_, _≤_, _<_};
 ghost use lib.ListN.{length};
 ghost use Rattle.rules.specs.Lists.{within};
 ghost use Rattle.rules.specs.SetUp.{sizes, ends-of, proper-pairs, set-up-refusal, set-up-state};
+ghost use Rattle.rules.specs.Layout.{header-size, channels-at, room};
 ghost use Rattle.rules.specs.Packing.{pack};
 ghost use Rattle.rules.specs.Calls.{set-up-call};
-ghost use Rattle.table.specs.Has.{HasCore, HasProcess, HasChannel};
-ghost use Rattle.set_up.specs.Filled.{
-  flaw-number,
-  both-named,
-  flaw-by,
-  up-to,
-  last-of,
-  in-turn,
-  header-filled,
-  core-with,
-  core-filled,
-  process-with,
-  process-filled,
-  channel-filled,
-  Ready,
-};
+ghost use Rattle.table.specs.Has.{HasProcess, HasChannel};
+ghost use Rattle.set_up.specs.Filled.{flaw-number, both-named, flaw-by, in-turn, header-filled, process-filled, channel-filled, alone, in-batches, CanStandAlone, Ready};
 
 // x is one of low, .. high.
 fn lies_in(low: u32, high: u32, x: u32) -> bool
@@ -104,74 +91,30 @@ fn refusal(k: u32, n: u32, m: u32, pairs: &[u32], size: usize) -> u32
     if pairs.len() != 2 * channels {
         return answers::PAIRS;
     }
-    if size != 8 + 16 * cores + 24 * processes + 4 * channels {
+    if size != table::room(cores, processes, channels) {
         return answers::ROOM;
     }
     pairs_flaw(n, channels, pairs)
 }
 
-// p where there are as many processes; otherwise 0.
-fn up_to(n: u32, p: u32) -> u32
-    ensures { λ r. ⌜ r ≡ up-to n p ⌝ }
-{
-    if p <= n { p } else { 0 }
-}
-
-// The last of the processes j + 1, j + 1 + k, .. that is one of 1 to n; 0 where none is.
-fn last_of(k: u32, n: u32, j: u32) -> u32
-    requires { ⌜ 1 ≤ k ⌝ }
-    ensures { λ r. ⌜ r ≡ last-of k n j ⌝ }
-{
-    if j < n { n - (n - (j + 1)) % k } else { 0 }
-}
-
-// Core j has a first and a last batch, given by their heads.
-fn fill_core(t: &mut [u32], j: u32, first: u32, last: u32)
-    requires { ⌜ HasCore (now t) j ⌝ }
-    ensures { λ r. ⌜ now (t .exit) ≡ core-with first last j (now (t .entry)) ⌝ }
-{
-    let i = j as usize;
-    t[8 + 16 * i + 8] = first;
-    t[8 + 16 * i + 9] = last;
-}
-
-// The k cores.
-fn fill_cores(t: &mut [u32], k: u32, n: u32)
-    requires { ⌜ 8 + 16 * k ≤ length (now t) ⌝ }
-    ensures { λ r. ⌜ now (t .exit) ≡ in-turn (core-filled k n) 0 k (now (t .entry)) ⌝ }
-{
-    let mut j = 0;
-    while j < k {
-        let first = up_to(n, j + 1);
-        let last = last_of(k, n, j);
-        fill_core(t, j, first, last);
-        j += 1;
-    }
-}
-
-// Process p is queued alone in a batch, with GO due; the next batch is given by its head.
-fn fill_process(t: &mut [u32], k: u32, p: u32, next: u32)
+// Process p is queued, with GO due.
+fn fill_process(t: &mut [u32], k: u32, p: u32)
     requires { ⌜ HasProcess (now t) k p ⌝ }
-    ensures { λ r. ⌜ now (t .exit) ≡ process-with next k p (now (t .entry)) ⌝ }
+    ensures { λ r. ⌜ now (t .exit) ≡ process-filled k p (now (t .entry)) ⌝ }
 {
     let cores = k as usize;
-    let i = p as usize;
-    t[8 + 16 * cores + 24 * (i - 1) + 0] = 2;
-    t[8 + 16 * cores + 24 * (i - 1) + 6] = 20;
-    t[8 + 16 * cores + 24 * (i - 1) + 21] = p;
-    t[8 + 16 * cores + 24 * (i - 1) + 22] = 1;
-    t[8 + 16 * cores + 24 * (i - 1) + 23] = next;
+    table::set_process_word(t, cores, p, layout::PROCESS_PLACE, layout::PLACE_QUEUED);
+    table::set_process_word(t, cores, p, layout::PROCESS_PROGRESS, layout::DUE_GO);
 }
 
 // The n processes.
 fn fill_processes(t: &mut [u32], k: u32, n: u32)
-    requires { ⌜ 8 + 16 * k + 24 * n ≤ length (now t) ⌝ ∗ ⌜ k ≤ 8 ⌝ ∗ ⌜ n ≤ 256 ⌝ }
-    ensures { λ r. ⌜ now (t .exit) ≡ in-turn (process-filled k n) 1 n (now (t .entry)) ⌝ }
+    requires { ⌜ channels-at k n ≤ length (now t) ⌝ ∗ ⌜ k ≤ 8 ⌝ ∗ ⌜ n ≤ 256 ⌝ }
+    ensures { λ r. ⌜ now (t .exit) ≡ in-turn (process-filled k) 1 n (now (t .entry)) ⌝ }
 {
     let mut p = 1;
     while p <= n {
-        let next = up_to(n, p + k);
-        fill_process(t, k, p, next);
+        fill_process(t, k, p);
         p += 1;
     }
 }
@@ -186,13 +129,13 @@ fn fill_channel(t: &mut [u32], k: u32, n: u32, pairs: &[u32], c: u32)
     let i = c as usize;
     let writer = pairs[2 * (i - 1)];
     let reader = pairs[2 * (i - 1) + 1];
-    t[8 + 16 * cores + 24 * processes + 4 * (i - 1) + 0] = writer;
-    t[8 + 16 * cores + 24 * processes + 4 * (i - 1) + 1] = reader;
+    table::set_channel_word(t, cores, processes, c, layout::CHANNEL_WRITER, writer);
+    table::set_channel_word(t, cores, processes, c, layout::CHANNEL_READER, reader);
 }
 
 // The m channels.
 fn fill_channels(t: &mut [u32], k: u32, n: u32, m: u32, pairs: &[u32])
-    requires { ⌜ 8 + 16 * k + 24 * n + 4 * m ≤ length (now t) ⌝ ∗ ⌜ 2 * m ≤ length (now pairs) ⌝ ∗ ⌜ m ≤ 256 ⌝ }
+    requires { ⌜ room k n m ≤ length (now t) ⌝ ∗ ⌜ 2 * m ≤ length (now pairs) ⌝ ∗ ⌜ m ≤ 256 ⌝ }
     ensures { λ r. ⌜ now (t .exit) ≡ in-turn (channel-filled k n (now (pairs .entry))) 1 m (now (t .entry)) ⌝ }
 {
     let mut c = 1;
@@ -204,14 +147,37 @@ fn fill_channels(t: &mut [u32], k: u32, n: u32, m: u32, pairs: &[u32])
 
 // K, N and M, and no word else, whatever the table held.
 fn fill_header(t: &mut [u32], k: u32, n: u32, m: u32)
-    requires { ⌜ 8 ≤ length (now t) ⌝ }
+    requires { ⌜ header-size ≤ length (now t) ⌝ }
     ensures { λ r. ⌜ now (t .exit) ≡ header-filled k n m (now (t .entry)) ⌝ }
 {
     let size = t.len();
     table::zero_words(t, 0, size);
-    t[0] = k;
-    t[1] = n;
-    t[2] = m;
+    t[layout::HEADER_CORES] = k;
+    t[layout::HEADER_PROCESSES] = n;
+    t[layout::HEADER_CHANNELS] = m;
+}
+
+// Process p is alone in a batch on core (p - 1) mod k, the last one there.
+fn stand_alone(t: &mut [u32], k: u32, p: u32)
+    requires { ⌜ CanStandAlone (now t) k p ⌝ ∗ ⌜ 1 ≤ k ⌝ ∗ ⌜ 1 ≤ p ⌝ }
+    ensures { λ r. ⌜ now (t .exit) ≡ alone k p (now (t .entry)) ⌝ }
+{
+    let cores = k as usize;
+    let j = ((p - 1) % k) as usize;
+    queues::push(t, cores, j, p);
+    queues::store(t, cores, j);
+}
+
+// The n processes stand in batches, in order.
+fn fill_queues(t: &mut [u32], k: u32, n: u32)
+    requires { ⌜ ((i : ℕ) → i < n → CanStandAlone (in-batches k i (now t)) k (suc i)) ⌝ ∗ ⌜ 1 ≤ k ⌝ ∗ ⌜ n ≤ 256 ⌝ }
+    ensures { λ r. ⌜ now (t .exit) ≡ in-batches k n (now (t .entry)) ⌝ }
+{
+    let mut p = 1;
+    while p <= n {
+        stand_alone(t, k, p);
+        p += 1;
+    }
 }
 
 // The whole table.
@@ -220,9 +186,9 @@ fn fill(k: u32, n: u32, m: u32, pairs: &[u32], t: &mut [u32])
     ensures { λ r. ⌜ now (t .exit) ≡ pack (set-up-state k n (now (pairs .entry))) ⌝ }
 {
     fill_header(t, k, n, m);
-    fill_cores(t, k, n);
     fill_processes(t, k, n);
     fill_channels(t, k, n, m, pairs);
+    fill_queues(t, k, n);
 }
 
 // Set-up: BUILT, 0, and the table built; or why it is refused, and nothing written.

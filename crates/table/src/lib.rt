@@ -4,11 +4,19 @@ ghost use Prim.Native.Nat.{_+_, _*_, _-_, _≤_, _<_};
 ghost use lib.ListN.{length, getD, set, replicate};
 ghost use lib.Dec.{eqb};
 ghost use lib.Seq.{sets};
-ghost use Rattle.rules.specs.Layout.{core-at, process-at, channel-at};
+ghost use Rattle.rules.specs.Layout.{room, core-at, process-at, channel-at};
 use layout::CHANNEL_STRIDE;
 use layout::CORE_STRIDE;
 use layout::HEADER_SIZE;
 use layout::PROCESS_STRIDE;
+
+// The number of words of a table.
+pub fn room(cores: usize, processes: usize, channels: usize) -> usize
+    requires { ⌜ cores ≤ 8 ⌝ ∗ ⌜ processes ≤ 256 ⌝ ∗ ⌜ channels ≤ 256 ⌝ }
+    ensures { λ r. ⌜ r ≡ room cores processes channels ⌝ }
+{
+    HEADER_SIZE + CORE_STRIDE * cores + PROCESS_STRIDE * processes + CHANNEL_STRIDE * channels
+}
 
 pub fn core_word(t: &[u32], k: usize, f: usize) -> u32
     requires { ⌜ core-at k f < length (now t) ⌝ }

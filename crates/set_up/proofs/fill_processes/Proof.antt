@@ -11,7 +11,7 @@ use Rattle.set_up.proofs.fill_processes.Tie as tie
 
 abbrev Inv-loop : tie.InvT-loop
 Inv-loop t₀ k n p₀ t p =
-    (length t ≡ length t₀) × (1 ≤ p) × (in-turn (process-filled k n) 1 n t₀ ≡ in-turn (process-filled k n) p (n + 1 - p) t)
+    (length t ≡ length t₀) × (1 ≤ p) × (in-turn (process-filled k) 1 n t₀ ≡ in-turn (process-filled k) p (n + 1 - p) t)
 
 abbrev μ-loop : tie.MeasureT-loop
 μ-loop t₀ k n p₀ t p = n + 1 - p
@@ -19,13 +19,7 @@ abbrev μ-loop : tie.MeasureT-loop
 loop-holds : tie.Need-loop-holds Inv-loop μ-loop
 loop-holds c =
     let args = c .before .args in
-    (refl, omega arith, all-turns (process-filled (args .k) (args .n)) 1 (args .n) (args .n + 1) (args .t .now) (omega arith))
-
-add-up-to : tie.Need-add-up-to Inv-loop μ-loop
-add-up-to c = omega arith
-
-up-to-requires : tie.Need-up-to-requires Inv-loop μ-loop
-up-to-requires c κs = search needs
+    (refl, omega arith, all-turns (process-filled (args .k)) 1 (args .n) (args .n + 1) (args .t .now) (omega arith))
 
 fill-process-requires : tie.Need-fill-process-requires Inv-loop μ-loop
 fill-process-requires c κs = search needs
@@ -39,11 +33,10 @@ loop-less c = omega arith
 loop-again : tie.Need-loop-again Inv-loop μ-loop
 loop-again c =
     let call = c .before .before in
-    let next = call .before .before in
-    let now = next .before .before in
+    let now = call .before .before .before in
     let args = now .before .before .args in
-    let turn = process-filled (args .k) (args .n) in
-    let filled : call .fill-process .last .0 ≡ turn (now .loop .p) (now .loop .t) = call .fill-process .ensures ∙ rw (next .up-to .ensures) in (
+    let turn = process-filled (args .k) in
+    let filled : call .fill-process .last .0 ≡ turn (now .loop .p) (now .loop .t) = call .fill-process .ensures in (
       call .fill-process .kept .0 ∙ now .loop .inv .0,
       omega arith,
       now .loop .inv .2 ∙ one-turn turn (args .n + 1) (now .loop .p) (now .loop .t) (omega arith) ∙ rw filled,
@@ -56,7 +49,7 @@ returns : tie.Need-returns Inv-loop μ-loop
 returns c =
     let now = c .before in
     let args = now .before .before .args in
-    sym (now .loop .inv .2 ∙ no-turn (process-filled (args .k) (args .n)) (args .n + 1) (now .loop .p) (now .loop .t) (omega arith))
+    sym (now .loop .inv .2 ∙ no-turn (process-filled (args .k)) (args .n + 1) (now .loop .p) (now .loop .t) (omega arith))
 
 pub fill-processes-spec : {M : Type 1} → statement M
 fill-processes-spec =
@@ -65,8 +58,6 @@ fill-processes-spec =
     Inv-loop
     μ-loop
     loop-holds
-    add-up-to
-    up-to-requires
     fill-process-requires
     add-p
     loop-less

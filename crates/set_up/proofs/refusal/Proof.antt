@@ -1,14 +1,15 @@
 -- The tests are those of the definition, in its order.
 use Prim.Native.Nat.{_*_}
-use mathlib.Core.Path.{_≡_, sym, _∙_}
+use mathlib.Core.Path.{_≡_, sym, _∙_, subst}
 use mathlib.Core.Bool.{true, false}
 use native.Mathlib.Omega.{arith}
-use lib.Dec.{eqb}
+use lib.Dec.{T, eqb}
 use lib.ListN.{length}
 use borrow.Author.Needs.{needs}
 use borrow.Author.Tests.{not-true, not-false, eq-eqb, ne-eqb}
 use Rattle.rules.specs.Layout.{room}
 use Rattle.rules.specs.SetUp.{sizes}
+use Rattle.rules.proofs.Tests.{tests}
 use Rattle.set_up.proofs.refusal.Statement.{statement}
 use Rattle.set_up.proofs.refusal.Tie as tie
 
@@ -32,27 +33,17 @@ returns-2 c =
     let paired : eqb (length (args .pairs .now)) (2 * args .m) ≡ false = ne-eqb (length (args .pairs .now)) (2 * args .m) (λ e. omega arith) in
     rw (small, paired)
 
-mul-if3 : tie.Need-mul-if3
-mul-if3 c = search needs
-
-add-if3 : tie.Need-add-if3
-add-if3 c = search needs
-
-mul-if3-2 : tie.Need-mul-if3-2
-mul-if3-2 c = search needs
-
-add-if3-2 : tie.Need-add-if3-2
-add-if3-2 c = search needs
-
-mul-if3-3 : tie.Need-mul-if3-3
-mul-if3-3 c = search needs
-
-add-if3-3 : tie.Need-add-if3-3
-add-if3-3 c = search needs
+room-requires : tie.Need-room-requires
+room-requires c κs =
+    let first = c .before in
+    let args = first .before .before .before .args in
+    let small : T (sizes (args .k) (args .n) (args .m)) = subst T (sym (sym (first .before .sized .ensures) ∙ not-false _ (first .if1 .left))) tt in
+    let limits = simp tests at small in
+    omega arith
 
 returns-3 : tie.Need-returns-3
 returns-3 c =
-    let first = c .before .before in
+    let first = c .before .before .before in
     let args = first .before .before .before .args in
     let small : sizes (args .k) (args .n) (args .m) ≡ true = sym (first .before .sized .ensures) ∙ not-false _ (first .if1 .left) in
     let paired : eqb (length (args .pairs .now)) (2 * args .m) ≡ true = eq-eqb (length (args .pairs .now)) (2 * args .m) (omega arith) in
@@ -65,7 +56,7 @@ pairs-flaw-requires c κs = search needs
 
 returns-4 : tie.Need-returns-4
 returns-4 c =
-    let first = c .before .before .before in
+    let first = c .before .before .before .before in
     let args = first .before .before .before .args in
     let small : sizes (args .k) (args .n) (args .m) ≡ true = sym (first .before .sized .ensures) ∙ not-false _ (first .if1 .left) in
     let paired : eqb (length (args .pairs .now)) (2 * args .m) ≡ true = eq-eqb (length (args .pairs .now)) (2 * args .m) (omega arith) in
@@ -81,12 +72,7 @@ refusal-spec =
     returns
     mul-if2
     returns-2
-    mul-if3
-    add-if3
-    mul-if3-2
-    add-if3-2
-    mul-if3-3
-    add-if3-3
+    room-requires
     returns-3
     pairs-flaw-requires
     returns-4)
