@@ -59,7 +59,7 @@ fn perform(table: &mut [u32], core: u32, ask: Ask) -> Reply
     let channels = header_word(table, 2);
     let k = core as usize;
     match ask {
-        Ask::Step => stepping::step_core(table, cores, processes, k),
+        Ask::Step => core_step::step(table, cores, processes, k),
         Ask::Send(c, v) => requests::send(table, cores, processes, channels, k, c, v),
         Ask::Receive(c) => requests::receive(table, cores, processes, channels, k, c),
         Ask::Yield => requests::yield_core(table, cores, processes, k),

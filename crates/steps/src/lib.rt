@@ -57,7 +57,7 @@ fn finds(t: &mut [u32], cores: usize, p: u32, way: Way, q: u32) -> Reply
 }
 
 // Look: nobody, or one who is choosing: next park. Otherwise that process is the partner: next copy.
-pub fn look_at(
+pub fn look_step(
     t: &mut [u32],
     cores: usize,
     processes: usize,
@@ -100,7 +100,7 @@ fn sleeps(t: &mut [u32], cores: usize, k: usize, p: u32, way: Way, task: u32, q:
 
 // Park: swap one's plain name into the word. What stood there decides: nobody, or one who is choosing, who is to be triggered: one
 // falls asleep. A process: the look was stale, next copy.
-pub fn park_at(
+pub fn park_step(
     t: &mut [u32],
     cores: usize,
     processes: usize,
@@ -140,7 +140,7 @@ fn copy_word(t: &mut [u32], cores: usize, p: u32, way: Way, q: u32)
 }
 
 // Copy, and one transfer more, modulo two to the 32.
-pub fn copy_data(
+pub fn copy_step(
     t: &mut [u32],
     cores: usize,
     processes: usize,
@@ -161,7 +161,7 @@ pub fn copy_data(
 }
 
 // Clear: the word becomes 0.
-pub fn clear_word(
+pub fn clear_step(
     t: &mut [u32],
     cores: usize,
     processes: usize,
@@ -192,7 +192,7 @@ pub fn wakes(t: &mut [u32], cores: usize, processes: usize, k: usize, q: u32) ->
 }
 
 // Wake: the core wakes the partner; answer SENT or GOT.
-pub fn wake_partner(
+pub fn wake_step(
     t: &mut [u32],
     cores: usize,
     processes: usize,

@@ -21,8 +21,8 @@ header-word-requires-3 c κs = search needs
 enum-told : tie.Need-enum-told
 enum-told c = search needs
 
-step-core-requires : tie.Need-step-core-requires
-step-core-requires c κs = search needs
+step-requires : tie.Need-step-requires
+step-requires c κs = search needs
 
 enum-known-ask : tie.Need-enum-known-ask
 enum-known-ask c = search needs
@@ -52,7 +52,7 @@ same-length : tie.Need-same-length
 same-length c = search needs
 
 returns : tie.Need-returns
-returns c = let went = c .before .before in rw (went .before .before .enum-told .given .1) (went .step-core .ensures)
+returns c = let went = c .before .before in rw (went .before .before .enum-told .given .1) (went .step .ensures)
 
 same-length-2 : tie.Need-same-length-2
 same-length-2 c = search needs
@@ -88,7 +88,7 @@ perform-spec =
     cast-processes
     header-word-requires-3
     enum-told
-    step-core-requires
+    step-requires
     enum-known-ask
     send-requires
     enum-known-ask-2

@@ -2,8 +2,8 @@
 use borrow.Author.Needs.{needs}
 use Rattle.steps.proofs.Near.{look-channel, stage-process}
 use Rattle.steps.proofs.Comes.{look-parks, look-copies}
-use Rattle.steps.proofs.look_at.Statement.{statement}
-use Rattle.steps.proofs.look_at.Tie as tie
+use Rattle.steps.proofs.look_step.Statement.{statement}
+use Rattle.steps.proofs.look_step.Tie as tie
 
 who-is-at-requires : tie.Need-who-is-at-requires
 who-is-at-requires c κs = search (look-channel, needs)
@@ -44,8 +44,8 @@ same-length-3 c = search needs
 returns-3 : tie.Need-returns-3
 returns-3 c = search look-copies
 
-pub look-at-spec : {M : Type 1} → statement M
-look-at-spec =
+pub look-step-spec : {M : Type 1} → statement M
+look-step-spec =
     tie.close
     (tie.spec
     who-is-at-requires

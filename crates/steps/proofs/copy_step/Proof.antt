@@ -3,8 +3,8 @@ use native.Mathlib.Omega.{arith}
 use borrow.Author.Needs.{needs}
 use Rattle.steps.proofs.Near.{at-copy, copy-partner, stage-process, later-process}
 use Rattle.steps.proofs.Comes.{copy-does}
-use Rattle.steps.proofs.copy_data.Statement.{statement}
-use Rattle.steps.proofs.copy_data.Tie as tie
+use Rattle.steps.proofs.copy_step.Statement.{statement}
+use Rattle.steps.proofs.copy_step.Tie as tie
 
 copy-word-requires : tie.Need-copy-word-requires
 copy-word-requires c κs = search (stage-process, copy-partner, needs)
@@ -27,8 +27,8 @@ same-length c = search needs
 returns : tie.Need-returns
 returns c = search copy-does
 
-pub copy-data-spec : {M : Type 1} → statement M
-copy-data-spec =
+pub copy-step-spec : {M : Type 1} → statement M
+copy-step-spec =
     tie.close
     (tie.spec
     copy-word-requires

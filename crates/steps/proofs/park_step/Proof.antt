@@ -2,8 +2,8 @@
 use borrow.Author.Needs.{needs}
 use Rattle.steps.proofs.Near.{park-channel, stage-core, stage-process, stage-name}
 use Rattle.steps.proofs.Comes.{park-alone, park-triggers, park-copies}
-use Rattle.steps.proofs.park_at.Statement.{statement}
-use Rattle.steps.proofs.park_at.Tie as tie
+use Rattle.steps.proofs.park_step.Statement.{statement}
+use Rattle.steps.proofs.park_step.Tie as tie
 
 who-is-at-requires : tie.Need-who-is-at-requires
 who-is-at-requires c κs = search (park-channel, needs)
@@ -50,8 +50,8 @@ same-length-3 c = search needs
 returns-3 : tie.Need-returns-3
 returns-3 c = search park-copies
 
-pub park-at-spec : {M : Type 1} → statement M
-park-at-spec =
+pub park-step-spec : {M : Type 1} → statement M
+park-step-spec =
     tie.close
     (tie.spec
     who-is-at-requires

@@ -2,8 +2,8 @@
 use borrow.Author.Needs.{needs}
 use Rattle.steps.proofs.Near.{clear-channel, stage-process}
 use Rattle.steps.proofs.Comes.{clear-does}
-use Rattle.steps.proofs.clear_word.Statement.{statement}
-use Rattle.steps.proofs.clear_word.Tie as tie
+use Rattle.steps.proofs.clear_step.Statement.{statement}
+use Rattle.steps.proofs.clear_step.Tie as tie
 
 set-word-requires : tie.Need-set-word-requires
 set-word-requires c κs = search (clear-channel, needs)
@@ -17,6 +17,6 @@ same-length c = search needs
 returns : tie.Need-returns
 returns c = search clear-does
 
-pub clear-word-spec : {M : Type 1} → statement M
-clear-word-spec =
+pub clear-step-spec : {M : Type 1} → statement M
+clear-step-spec =
     tie.close (tie.spec set-word-requires goes-on-requires same-length returns)

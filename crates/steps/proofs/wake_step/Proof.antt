@@ -2,8 +2,8 @@
 use borrow.Author.Needs.{needs}
 use Rattle.steps.proofs.Near.{stage-process}
 use Rattle.steps.proofs.Wake.{can-wake, wake-faults, wake-reports}
-use Rattle.steps.proofs.wake_partner.Statement.{statement}
-use Rattle.steps.proofs.wake_partner.Tie as tie
+use Rattle.steps.proofs.wake_step.Statement.{statement}
+use Rattle.steps.proofs.wake_step.Tie as tie
 
 wakes-requires : tie.Need-wakes-requires
 wakes-requires c κs = search can-wake
@@ -29,8 +29,8 @@ same-length-2 c = search needs
 returns-2 : tie.Need-returns-2
 returns-2 c = search wake-faults
 
-pub wake-partner-spec : {M : Type 1} → statement M
-wake-partner-spec =
+pub wake-step-spec : {M : Type 1} → statement M
+wake-step-spec =
     tie.close
     (tie.spec
     wakes-requires
