@@ -30,7 +30,7 @@ hosts: $(SCENARIOS) $(TRIALS) ## build the hosts in C and the programs that try 
 
 sanitized: target/sanitized/ring target/sanitized/collectors target/sanitized/numbers ## build hosts with the compiler's sanitizers
 
-header: ## compile the header as C and as C++, and compare its numbers with docs/NUMBERS.md
+header: ## compile the header as C and as C++, and compare its numbers with docs/NUMBERS.md and its layout with the rules
 	host/test-header
 
 $(LIBRARY): $(shell find crates -name '*.rt' -o -name '*.antt') crates.txt

@@ -11,8 +11,9 @@ use Rattle.rules.specs.Items.{core-of, process-of}
 use Rattle.rules.specs.Rule.{run}
 use Rattle.rules.specs.Scheduler.{running-step, work-step, step}
 use Rattle.rules.specs.Layout.{process-at, process-progress, at-nothing, at-send-look, at-finish, due-go, due-sent, due-got, due-chose}
-use Rattle.rules.specs.Packing.{view, N-of, progress-numbered}
+use Rattle.rules.specs.Packing.{view, N-of, progress-list, progress-numbered}
 use Rattle.rules.proofs.Tests.{within-means}
+use Rattle.rules.proofs.Packing.Numbered.{progress-by-place}
 use Rattle.answers.specs.Four.{four}
 use Rattle.answers.specs.declared.Reply.{Reply}
 use Rattle.parts.specs.Does.{At, Comes, Does}
@@ -41,7 +42,8 @@ no-stage t cores p n c q h = by-number (ℕ-discrete n due-go) (ℕ-discrete n d
     by-number (no a) (yes e) c d = rw e tt
     by-number (no a) (no b) (yes e) d = rw e tt
     by-number (no a) (no b) (no c) (yes e) = rw e tt
-    by-number (no a) (no b) (no c) (no d) = let long : due-chose < n = omega arith in rw (List·getD-eq-default _ nothing long) tt
+    by-number (no a) (no b) (no c) (no d) = let long : due-chose < n = omega arith in
+        rw (progress-by-place, List·getD-eq-default (progress-list _ _ _ _ _) nothing long) tt
 
 -- none of the numbers from 1 to m
 abbrev NoneOf : ℕ → ℕ → Type 0

@@ -1,13 +1,9 @@
-// Tables with a flaw, and sound ones beside them (docs/PACKING.md says what each word is). The entries of `stdin`:
-//     table: WORDS                              the table that the next entries begin with, as long as it has words
-//     length: LENGTH                            so many of its words are lent, with zeros after those that were named
-//     spread: ADDRESS STRIDE COUNT FIRST STEP   FIRST at ADDRESS, FIRST + STEP at ADDRESS + STRIDE, .. (COUNT words)
-//     NAME: ADDRESS VALUE ..                    writes NAME, and whether the table with these words in it is sound
+// Tables with a flaw, and sound ones beside them. The entries of `stdin`, with words of a table by name (crates/script says how):
+//     table: K N M WORDS      the table that the next entries begin with: its sizes, and the words that aren't 0
+//     length: K N M D         as many words are lent as a table of these sizes has, and D more (`-D`: D fewer); `none`: no word
+//     spread: KIND P to Q WORD FIRST step STEP      in the records P, P + 1, .. Q: FIRST, FIRST + STEP, ..
+//     NAME: WORDS             writes NAME, and whether the table with these words in it is sound
 // A name in brackets is a heading, written as it stands.
-
-fn wide(x: u32) -> usize {
-    x as usize
-}
 
 fn write_spread(t: &mut [u32], first_address: u32, stride: u32, count: u32, first: u32, step: u32) {
     let mut address = first_address;
@@ -21,18 +17,35 @@ fn write_spread(t: &mut [u32], first_address: u32, stride: u32, count: u32, firs
     }
 }
 
-fn write_edits(t: &mut [u32], edits: &[u32]) {
-    let mut i = 1;
-    while i < edits.len() {
-        script::put(t, edits[i - 1], edits[i]);
-        i += 2;
+// How many records there are from one to another.
+fn count(from: u32, last: u32) -> u32 {
+    if last < from {
+        return 0;
     }
+    std::num::wrapping_add_u32(last - from, 1)
 }
 
-fn is_sound(table: &[u32], length: usize, edits: &[u32]) -> bool {
+// Its numbers are the two records, the first value and the step; the word is found in a copy, into which they are written too.
+fn spread(s: &[u8], t: &mut [u32]) {
+    let mut n = [0u32; 4];
+    script::numbers(s, &mut n);
+    let mut copy = script::zeros();
+    script::copy(t, &mut copy);
+    let cursor = script::words(s, &mut copy);
+    write_spread(
+        t,
+        cursor.first,
+        cursor.stride,
+        count(n[0], n[1]),
+        n[2],
+        n[3],
+    );
+}
+
+fn is_sound(table: &[u32], length: usize, words: &[u8]) -> bool {
     let mut t = script::zeros();
     script::copy(table, &mut t);
-    write_edits(&mut t, edits);
+    script::words(words, &mut t);
     soundness::sound(script::part(&t, 0, length))
 }
 
@@ -45,31 +58,43 @@ fn write_verdict(name: &[u8], sound: bool) {
     }
 }
 
-// Does one entry, and returns the length that the table has then.
+// Begins a table, and returns its length.
+fn begin(s: &[u8], table: &mut [u32]) -> usize {
+    let zeros = script::zeros();
+    script::copy(&zeros, table);
+    script::words(s, table);
+    script::table_length(table)
+}
+
+// Does one entry, what stands after its name, and returns the length that the table has then.
+fn perform(name: &[u8], s: &[u8], table: &mut [u32], length: usize) -> usize {
+    if check::same(name, b"table") {
+        return begin(s, table);
+    }
+    if check::same(name, b"length") {
+        return script::length(s);
+    }
+    if check::same(name, b"spread") {
+        spread(s, table);
+        return length;
+    }
+    write_verdict(name, is_sound(table, length, s));
+    length
+}
+
 fn entry(s: &[u8], table: &mut [u32], length: usize) -> usize {
-    let mut words = script::zeros();
-    let name = script::find(s, 0, b':', b':');
-    let count = script::numbers(&s[name..], &mut words);
     if script::begins(s, b"[") {
         io::write_all(1, s);
         io::write_all(1, b"\n");
         return length;
     }
-    if script::begins(s, b"#") | (name == s.len()) {
+    if script::begins(s, b"#") {
         return length;
     }
-    if script::begins(s, b"table:") {
-        script::copy(&words, table);
-        return count;
+    let name = script::find(s, 0, b':', b':');
+    if name < s.len() {
+        return perform(&s[..name], &s[name + 1..], table, length);
     }
-    if script::begins(s, b"length:") {
-        return wide(words[0]);
-    }
-    if script::begins(s, b"spread:") {
-        write_spread(table, words[0], words[1], words[2], words[3], words[4]);
-        return length;
-    }
-    write_verdict(&s[..name], is_sound(table, length, &words[..count]));
     length
 }
 

@@ -1,7 +1,7 @@
 // Makes the calls that a text asks for, and writes each entry with what it gave: of a call the number, the answer words if it wrote any,
 // and `unchanged` where the table is as it was. The entries:
 //     case ..                                a heading
-//     length LENGTH                          so many words are lent as the table
+//     length K N M D                         as many words are lent as a table of these sizes has, and D more (`-D`: D fewer); `none`
 //     answers LENGTH                         so many are lent as the answer slice: 0 to 4, and 3 at first
 //     set-up K N M WRITER READER ..          the calls
 //     send CORE CHANNEL VALUE
@@ -10,20 +10,13 @@
 //     yield CORE
 //     end CORE
 //     step CORE
-//     write ADDRESS VALUE                    writes a word of the table by hand
-//     show ADDRESS COUNT                     shows words of the table
-ghost use mathlib.Core.Path.{_≡_};
+//     write WORDS                            writes words of the table by hand (crates/script says how they are named)
+//     show WORD, show WORD to WORD           shows words of the table
 
 // How many words are lent.
 struct Lent {
     table: usize,
     answer: usize,
-}
-
-fn wide(x: u32) -> usize
-    ensures { λ r. ⌜ r ≡ x ⌝ }
-{
-    x as usize
 }
 
 fn write_number(n: u32) {
@@ -40,7 +33,13 @@ fn write_words(words: &[u32]) {
 }
 
 // The call that an entry asks for; `words` holds its `count` numbers.
-fn call(s: &[u8], words: &[u32; 7312], count: usize, table: &mut [u32], answer: &mut [u32]) -> u32 {
+fn call(
+    s: &[u8],
+    words: &[u32; 16384],
+    count: usize,
+    table: &mut [u32],
+    answer: &mut [u32],
+) -> u32 {
     let core = words[0];
     if script::begins(s, b"set-up") {
         let pairs = script::part(words, 3, count);
@@ -67,7 +66,7 @@ fn call(s: &[u8], words: &[u32; 7312], count: usize, table: &mut [u32], answer: 
 // Lends what the entries before have said.
 fn lend(
     s: &[u8],
-    words: &[u32; 7312],
+    words: &[u32; 16384],
     count: usize,
     table: &mut [u32],
     answer: &mut [u32],
@@ -94,7 +93,7 @@ fn write_change(answered: bool, unchanged: bool, answer: &[u32]) {
     }
 }
 
-fn try_call(s: &[u8], words: &[u32; 7312], count: usize, table: &mut [u32], lent: Lent) {
+fn try_call(s: &[u8], words: &[u32; 16384], count: usize, table: &mut [u32], lent: Lent) {
     let mut answer = [99u32; 4];
     let mut before = script::zeros();
     script::copy(table, &mut before);
@@ -109,37 +108,39 @@ fn try_call(s: &[u8], words: &[u32; 7312], count: usize, table: &mut [u32], lent
     );
 }
 
-fn show(table: &[u32], from: u32, count: u32) {
-    let start = wide(from);
+fn show(s: &[u8], table: &mut [u32]) {
+    let cursor = script::words(s, table);
+    let last = script::wide(cursor.at);
     io::write_all(1, b":");
-    write_words(script::part(table, start, start + wide(count)));
+    write_words(script::part(table, script::wide(cursor.first), last + 1));
 }
 
 // Does what an entry asks for, and says what is lent then.
 fn perform(s: &[u8], table: &mut [u32], lent: Lent) -> Lent {
     let mut words = script::zeros();
     let count = script::numbers(s, &mut words);
+    let name = script::find(s, 0, b' ', b' ');
     if script::begins(s, b"case") {
         return lent;
     }
     if script::begins(s, b"length") {
         return Lent {
-            table: wide(words[0]),
+            table: script::length(s),
             answer: lent.answer,
         };
     }
     if script::begins(s, b"answers") {
         return Lent {
             table: lent.table,
-            answer: wide(words[0]),
+            answer: script::wide(words[0]),
         };
     }
     if script::begins(s, b"write") {
-        script::put(table, words[0], words[1]);
+        script::words(&s[name..], table);
         return lent;
     }
     if script::begins(s, b"show") {
-        show(table, words[0], words[1]);
+        show(&s[name..], table);
         return lent;
     }
     try_call(s, &words, count, table, lent);

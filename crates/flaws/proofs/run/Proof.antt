@@ -7,7 +7,7 @@ use Rattle.flaws.proofs.run.Statement.{statement}
 use Rattle.flaws.proofs.run.Tie as tie
 
 abbrev Inv-loop : tie.InvT-loop
-Inv-loop text table₀ size₀ at₀ table size at = 7312 ≡ length table
+Inv-loop text table₀ size₀ at₀ table size at = 16384 ≡ length table
 
 abbrev μ-loop : tie.MeasureT-loop
 μ-loop text table₀ size₀ at₀ table size at = length text - at

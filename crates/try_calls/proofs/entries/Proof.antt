@@ -7,7 +7,7 @@ use Rattle.try_calls.proofs.entries.Statement.{statement}
 use Rattle.try_calls.proofs.entries.Tie as tie
 
 abbrev Inv-loop : tie.InvT-loop
-Inv-loop text table₀ lent₀ at₀ table lent at = 7312 ≡ length table
+Inv-loop text table₀ lent₀ at₀ table lent at = 16384 ≡ length table
 
 abbrev μ-loop : tie.MeasureT-loop
 μ-loop text table₀ lent₀ at₀ table lent at = length text - at
