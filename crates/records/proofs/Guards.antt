@@ -1,35 +1,42 @@
 -- One guard more, as the code looks at them: it is another's, it stands again behind, or the guards behind it decide.
 use Prim.Native.Nat.{ℕ, suc, _+_, _-_, _<_}
 use mathlib.Core.Path.{_≡_, sym, ap, _∙_, subst}
-use mathlib.Core.Bool.{Bool, true, false}
+use mathlib.Core.Bool.{Bool, true, false, not}
 use mathlib.Core.List.{List}
 use native.Mathlib.Numerals.{add-one}
+use borrow.Author.Tests.{not-true, not-false}
 use Rattle.rules.specs.Layout.{channel-reader}
 use Rattle.fitting.specs.Twin.{word, end-fits, stands-among, guards-fit}
 use Rattle.records.proofs.Runs.{goes-on, stops}
-use Rattle.records.proofs.Tests.{and-false}
+use Rattle.records.proofs.Tests.{answered, and-false}
 
 module _ (t : List ℕ) (K N M p a end : ℕ) (more : a < end) {c : ℕ} (read : c ≡ word t a) where
-  -- the guards from i on, n of them; the test of this one; whether it stands again
+  -- the guards from one on, so many of them; the test of one
   abbrev guards : ℕ → ℕ → Bool
   guards = guards-fit t K N M p
 
   abbrev own : ℕ → Bool
   own = end-fits t K N M p channel-reader
 
-  own-is : (b : Bool) → own c ≡ b → own (word t a) ≡ b
-  own-is b e = subst (λ (x : ℕ). own x ≡ b) read e
+  own-is : {r : Bool} (b : Bool) → r ≡ own c → r ≡ b → own (word t a) ≡ b
+  own-is {r} b f e = subst (λ (x : ℕ). own x ≡ b) read (answered r (own c) b f e)
 
-  again-is : (b : Bool) → stands-among t c (a + 1) (end - (a + 1)) ≡ b → stands-among t (word t a) (suc a) (end - (a + 1)) ≡ b
-  again-is b e =
+  -- whether c stands again behind it
+  abbrev again : ℕ → Bool
+  again x = stands-among t x (a + 1) (end - (a + 1))
+
+  again-is : {r : Bool} (b : Bool) → r ≡ again c → r ≡ b → stands-among t (word t a) (suc a) (end - (a + 1)) ≡ b
+  again-is {r} b f e =
       ap (λ (i : ℕ). stands-among t (word t a) i (end - (a + 1))) (sym (add-one a))
-      ∙ subst (λ (x : ℕ). stands-among t x (a + 1) (end - (a + 1)) ≡ b) read e
+      ∙ subst (λ (x : ℕ). again x ≡ b) read (answered r (again c) b f e)
 
-  pub another's : own c ≡ false → guards a (end - a) ≡ false
-  another's e = stops guards a end false more (and-false _ _ (and-false _ _ (own-is false e)))
+  module _ {r : Bool} (f : r ≡ own c) where
+    pub another's : not r ≡ true → guards a (end - a) ≡ false
+    another's left = stops guards a end false more (and-false _ _ (and-false _ _ (own-is false f (not-true r left))))
 
-  pub twice : own c ≡ true → stands-among t c (a + 1) (end - (a + 1)) ≡ true → guards a (end - a) ≡ false
-  twice e s = stops guards a end false more (rw (own-is true e, again-is true s))
+    module _ (holds : not r ≡ false) {u : Bool} (g : u ≡ again c) where
+      pub twice : u ≡ true → guards a (end - a) ≡ false
+      twice e = stops guards a end false more (rw (own-is true f (not-false r holds), again-is true g e))
 
-  pub once : own c ≡ true → stands-among t c (a + 1) (end - (a + 1)) ≡ false → guards a (end - a) ≡ guards (a + 1) (end - (a + 1))
-  once e s = goes-on guards a end more (rw (own-is true e, again-is false s))
+      pub once : u ≡ false → guards a (end - a) ≡ guards (a + 1) (end - (a + 1))
+      once e = goes-on guards a end more (rw (own-is true f (not-false r holds), again-is false g e))

@@ -1,6 +1,5 @@
 -- The first part that fails decides.
 use mathlib.Core.Path.{_∙_}
-use Rattle.records.proofs.Tests.{refused, accepted}
 use Rattle.records.proofs.Fails.{flags-fail, place-fails, meeting-fails, progress-decides}
 use borrow.Author.Needs.{needs}
 use Rattle.records.proofs.processes.process_fits.Statement.{statement}
@@ -15,7 +14,7 @@ flags-fit-requires c κs = search needs
 returns : tie.Need-returns
 returns c =
     let asked = c .before .before .before .before .args in
-    flags-fail (asked .t .now) (asked .cores) (asked .processes) (asked .channels) (asked .p) (asked .m) (refused _ _ (c .before .flags-fit .ensures) (c .if1 .taken))
+    flags-fail (asked .t .now) (asked .cores) (asked .processes) (asked .channels) (asked .p) (asked .m) (c .before .flags-fit .ensures) (c .if1 .taken)
 
 process-word-requires-2 : tie.Need-process-word-requires-2
 process-word-requires-2 c κs = search needs
@@ -27,7 +26,7 @@ returns-2 : tie.Need-returns-2
 returns-2 c =
     let asked = c .before .before .before .before .before .before .before .args in
     place-fails (asked .t .now) (asked .cores) (asked .processes) (asked .channels) (asked .p) (asked .m) (c .before .before .before .before .before .process-word .ensures) (c .before .before .process-word2 .ensures)
-    (refused _ _ (c .before .place-fits .ensures) (c .if2 .taken))
+    (c .before .place-fits .ensures) (c .if2 .taken)
 
 meeting-fits-requires : tie.Need-meeting-fits-requires
 meeting-fits-requires c κs = search needs
@@ -36,7 +35,7 @@ returns-3 : tie.Need-returns-3
 returns-3 c =
     let asked = c .before .before .before .before .before .before .before .before .before .args in
     meeting-fails (asked .t .now) (asked .cores) (asked .processes) (asked .channels) (asked .p) (asked .m) (c .before .before .before .before .before .before .before .process-word .ensures)
-    (c .before .before .before .before .process-word2 .ensures) (refused _ _ (c .before .meeting-fits .ensures) (c .if3 .taken))
+    (c .before .before .before .before .process-word2 .ensures) (c .before .meeting-fits .ensures) (c .if3 .taken)
 
 progress-fits-requires : tie.Need-progress-fits-requires
 progress-fits-requires c κs = search needs
@@ -47,9 +46,9 @@ returns-4 c =
     c .progress-fits .ensures
     ∙ progress-decides (asked .t .now) (asked .cores) (asked .processes) (asked .channels) (asked .p) (asked .m) (c .before .before .before .before .before .before .before .before .process-word .ensures)
     (c .before .before .before .before .before .process-word2 .ensures)
-    (accepted _ _ (c .before .before .before .before .before .before .before .flags-fit .ensures) (c .before .before .before .before .before .before .if1 .left))
-    (accepted _ _ (c .before .before .before .before .place-fits .ensures) (c .before .before .before .if2 .left))
-    (accepted _ _ (c .before .before .meeting-fits .ensures) (c .before .if3 .left))
+    (c .before .before .before .before .before .before .before .flags-fit .ensures) (c .before .before .before .before .before .before .if1 .left)
+    (c .before .before .before .before .place-fits .ensures) (c .before .before .before .if2 .left)
+    (c .before .before .meeting-fits .ensures) (c .before .if3 .left)
 
 pub process-fits-spec : {M : Type 1} → statement M
 process-fits-spec =

@@ -1,6 +1,5 @@
 -- The first test that fails decides.
 use mathlib.Core.Path.{_∙_}
-use Rattle.records.proofs.Tests.{refused, accepted}
 use Rattle.records.proofs.Fails.{number-fails, channel-fails, partner-fails, rest-decides}
 use borrow.Author.Needs.{needs}
 use Rattle.records.proofs.progress.exchange_fits.Statement.{statement}
@@ -18,7 +17,7 @@ channel-part-requires c κs = search needs
 returns-2 : tie.Need-returns-2
 returns-2 c =
     let asked = c .before .before .before .before .before .args in
-    channel-fails (asked .t .now) (asked .cores) (asked .processes) (asked .channels) (asked .p) (asked .n) (c .before .before .process-word .ensures) (refused _ _ (c .before .channel-part .ensures) (c .if2 .taken))
+    channel-fails (asked .t .now) (asked .cores) (asked .processes) (asked .channels) (asked .p) (asked .n) (c .before .before .process-word .ensures) (c .before .channel-part .ensures) (c .if2 .taken)
 
 process-word-requires-2 : tie.Need-process-word-requires-2
 process-word-requires-2 c κs = search needs
@@ -29,7 +28,7 @@ partner-part-requires c κs = search needs
 returns-3 : tie.Need-returns-3
 returns-3 c =
     let asked = c .before .before .before .before .before .before .before .before .args in
-    partner-fails (asked .t .now) (asked .cores) (asked .processes) (asked .channels) (asked .p) (asked .n) (c .before .before .process-word2 .ensures) (refused _ _ (c .before .partner-part .ensures) (c .if3 .taken))
+    partner-fails (asked .t .now) (asked .cores) (asked .processes) (asked .channels) (asked .p) (asked .n) (c .before .before .process-word2 .ensures) (c .before .partner-part .ensures) (c .if3 .taken)
 
 no-guards-requires : tie.Need-no-guards-requires
 no-guards-requires c κs = search needs
@@ -39,8 +38,8 @@ returns-4 c =
     let asked = c .before .before .before .before .before .before .before .before .before .args in
     c .no-guards .ensures
     ∙ rest-decides (asked .t .now) (asked .cores) (asked .processes) (asked .channels) (asked .p) (asked .n) (c .before .before .before .before .before .before .before .if1 .left) (c .before .before .before .before .before .before .process-word .ensures)
-    (accepted _ _ (c .before .before .before .before .before .channel-part .ensures) (c .before .before .before .before .if2 .left)) (c .before .before .before .process-word2 .ensures)
-    (accepted _ _ (c .before .before .partner-part .ensures) (c .before .if3 .left))
+    (c .before .before .before .before .before .channel-part .ensures) (c .before .before .before .before .if2 .left) (c .before .before .before .process-word2 .ensures)
+    (c .before .before .partner-part .ensures) (c .before .if3 .left)
 
 pub exchange-fits-spec : {M : Type 1} → statement M
 exchange-fits-spec =

@@ -5,7 +5,6 @@ use mathlib.Core.Path.{_≡_, refl, sym, _∙_}
 use mathlib.Core.Bool.{true, false}
 use native.Mathlib.Omega.{arith}
 use Rattle.fitting.specs.Twin as twin
-use Rattle.records.proofs.Tests.{answered, refused, accepted}
 use Rattle.records.proofs.Runs.{begins, over}
 use Rattle.records.proofs.Guards.{another's, twice, once}
 use Rattle.records.proofs.progress.guards_fit.Statement.{statement}
@@ -42,7 +41,7 @@ returns c =
     sym
     (at .inv .1
     ∙ another's (a .t .now) (a .cores) (a .processes) (a .channels) (a .p) (at .at) (a .from + a .count) (c .before .before .before .loop-test .taken)
-    (c .before .before .word .ensures) (refused _ _ (c .before .end-fits .ensures) (c .if1 .taken)))
+    (c .before .before .word .ensures) (c .before .end-fits .ensures) (c .if1 .taken))
 
 sub-stands-among : tie.Need-sub-stands-among Inv-loop μ-loop
 sub-stands-among c = search needs
@@ -57,8 +56,8 @@ returns-2 c =
     sym
     (at .inv .1
     ∙ twice (a .t .now) (a .cores) (a .processes) (a .channels) (a .p) (at .at) (a .from + a .count) (c .before .before .before .before .before .loop-test .taken)
-    (c .before .before .before .before .word .ensures) (accepted _ _ (c .before .before .before .end-fits .ensures) (c .before .before .if1 .left))
-    (answered _ _ true (c .before .stands-among .ensures) (c .if2 .taken)))
+    (c .before .before .before .before .word .ensures) (c .before .before .before .end-fits .ensures) (c .before .before .if1 .left)
+    (c .before .stands-among .ensures) (c .if2 .taken))
 
 loop-less : tie.Need-loop-less Inv-loop μ-loop
 loop-less c = search needs
@@ -70,8 +69,8 @@ loop-again c =
       omega arith,
       at .inv .1
           ∙ once (a .t .now) (a .cores) (a .processes) (a .channels) (a .p) (at .at) (a .from + a .count) (c .before .before .before .before .before .loop-test .taken)
-          (c .before .before .before .before .word .ensures) (accepted _ _ (c .before .before .before .end-fits .ensures) (c .before .before .if1 .left))
-          (answered _ _ false (c .before .stands-among .ensures) (c .if2 .left)),
+          (c .before .before .before .before .word .ensures) (c .before .before .before .end-fits .ensures) (c .before .before .if1 .left)
+          (c .before .stands-among .ensures) (c .if2 .left),
     )
 
 returns-3 : tie.Need-returns-3 Inv-loop μ-loop

@@ -13,7 +13,7 @@ word-requires-2 : tie.Need-word-requires-2
 word-requires-2 c κs = search needs
 
 returns : tie.Need-returns
-returns c = cc
+returns c = rw (c .word2 .ensures, c .before .word .ensures)
 
 pub stand-at-spec : {M : Type 1} → statement M
 stand-at-spec = tie.close (tie.spec word-requires add-word word-requires-2 returns)
