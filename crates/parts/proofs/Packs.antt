@@ -11,7 +11,7 @@ use Rattle.rules.specs.Items.{Kind, core, place, data-word, alternation, progre
 use Rattle.rules.specs.Layout.{core-at, process-at, channel-at}
 use Rattle.rules.specs.Packing.{pack, view, place-number, word-number, word-numbered, work-words, progress-words}
 use Rattle.rules.specs.Steps.{with-work}
-use Rattle.rules.proofs.Laws.Frame.{put-other}
+use Rattle.rules.proofs.Laws.Items.{put-other}
 use Rattle.packing.proofs.Focus.{writes, below}
 use Rattle.packing.proofs.ReadLaws.{listed, core-list, process-list, channel-list, read-core, read-process, read-progress}
 use Rattle.packing.proofs.ReadLaws.{read-channel}

@@ -1,4 +1,5 @@
--- The claims on calls (specs/Claims.antt), a file each; Frame and Within carry demand 3.
+-- The claims on calls (specs/Claims.antt), a file each; Items, Frame and Within carry demand 3.
+pub mod Items
 pub mod Frame
 pub mod Within
 pub mod Whole

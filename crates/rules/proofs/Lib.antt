@@ -1,4 +1,5 @@
 pub mod Tests
+pub mod Nth
 pub mod Good
 pub mod Tabulate
 pub mod Sums

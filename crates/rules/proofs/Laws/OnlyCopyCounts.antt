@@ -43,7 +43,7 @@ use Rattle.rules.specs.State.{
   State,
   wiring,
 }
-use Rattle.rules.specs.Items.{Kind, core, place, data-word, alternation, progress, channel-word, transfers, Item, core-of, get, put, no-core}
+use Rattle.rules.specs.Items.{channels, Kind, place, data-word, progress, transfers, Kind-discrete, Item, core-of, get, put, no-core}
 use Rattle.rules.specs.Rule.{Rule, Ran, accepted, refused, run}
 use Rattle.rules.specs.Steps.{copy-step}
 use Rattle.rules.specs.Scheduler.{running-step, work-step}
@@ -56,7 +56,8 @@ use Rattle.rules.specs.Claims.{sends-word, Copying, OnlyCopyCounts, Call
 use Rattle.rules.proofs.Tests.{both, within-means}
 use Rattle.rules.proofs.Packing.Reflect.{valid-means}
 use Rattle.rules.proofs.Packing.Means.{view-of-pack}
-use Rattle.rules.proofs.Laws.Frame.{there, put-own, run-keeps}
+use Rattle.rules.proofs.Laws.Items.{there, put-own}
+use Rattle.rules.proofs.Laws.Frame.{run-keeps}
 use Rattle.rules.proofs.Laws.Within.{All, rule-within}
 use Rattle.rules.proofs.Laws.Whole.{whole, whole-by, holds, Packs, sound-packs, on-packing}
 use Rattle.rules.proofs.Laws.StaysSound.{leaves-packing}
@@ -86,13 +87,7 @@ table-has d c n t small h = rw (on-packing d own refl) (go (run (whole true d (w
 module _ (s : State) (k : ℕ) (ask : Ask) where
   -- any item but the transfers of a channel on which the call doesn't copy
   abbrev Allowed : Kind → ℕ → Type 0
-  Allowed core n = Unit {0}
-  Allowed place n = Unit {0}
-  Allowed data-word n = Unit {0}
-  Allowed alternation n = Unit {0}
-  Allowed progress n = Unit {0}
-  Allowed channel-word n = Unit {0}
-  Allowed transfers n = Copying s k ask n
+  Allowed kind n = elim (Kind-discrete kind transfers) [ yes same ↦ Copying s k ask n | no other ↦ Unit {0} ]
 
   -- where every item of two lists is allowed, every item of both together is
   all-joined : (l m : List Item) → All Allowed l → All Allowed m → All Allowed (l ++ m)
@@ -195,7 +190,7 @@ abbrev one-more : State → ℕ → ℕ
 one-more s c = (get transfers s c + 1) % 4294967296
 
 -- a copy on a channel that is there adds one
-copy-counts : (s : State) (p : ℕ) (way : Way) (c q : ℕ) → there (wiring s) transfers c ≡ true
+copy-counts : (s : State) (p : ℕ) (way : Way) (c q : ℕ) → there (wiring s) channels c ≡ true
     → Has s c (one-more s c) (run (copy-step p way c q) s)
 copy-counts s p sending c q h = put-own transfers c _ (put data-word q (get data-word s p) s) h
 copy-counts s p receiving c q h = put-own transfers c _ (put data-word p (get data-word s q) s) h
@@ -212,7 +207,7 @@ core-there s k p on = go (ltb k (length (s .cores))) refl
         absurd (omega arith)
 
 -- and the channel on which it copies is too, in a valid state
-channel-there : (s : State) (k : ℕ) (ask : Ask) (c : ℕ) → T (valid s) → Copying s k ask c → there (wiring s) transfers c ≡ true
+channel-there : (s : State) (k : ℕ) (ask : Ask) (c : ℕ) → T (valid s) → Copying s k ask c → there (wiring s) channels c ≡ true
 channel-there s k ask c good x =
     let w = wiring s in
     let v = valid-means s good in
@@ -220,7 +215,7 @@ channel-there s k ask c good x =
     let named : T (is-process w p) = rw (x .running) at (v .cores k (core-there s k p (x .running)) .work) in
     let (low, high) = within-means 1 (w .N) p named in
     let own : T (own-end w (x .way) p c && is-process w (x .partner)) = rw (x .at-copy) at (v .processes p low high .in-hand) in
-    holds _ (both (there w transfers c) _ (both (own-end w (x .way) p c) _ own .0) .0)
+    holds _ (both (there w channels c) _ (both (own-end w (x .way) p c) _ own .0) .0)
 
 -- so the call's own rule adds one
 step-counts : (s : State) (k : ℕ) (ask : Ask) (c : ℕ) → T (valid s) → Copying s k ask c

@@ -1,72 +1,42 @@
 -- What a write to one record of a state leaves valid.
-use Prim.Native.Nat.{ℕ, zero, suc, _+_, _<_}
+use Prim.Native.Nat.{ℕ, _+_, _<_}
 use native.Mathlib.Omega.{arith}
 use native.Mathlib.Decide.{ℕ-discrete}
 use mathlib.Core.Path.{_≡_, refl, sym, ap, subst, _∙_}
-use mathlib.Core.Bool.{Bool}
-use mathlib.Core.List.{List, map}
 use lib.Dec.{T}
 use lib.ListN.{length, length-set}
-use lib.Seq.{getD-set-same, getD-set-other, map-set-same}
-use Rattle.rules.specs.Lists.{nth, set-nth, within, all, total, times}
-use Rattle.rules.specs.State.{Place, Progress, Alternation, Process, Core, queues-of, Channel, State, Wiring}
-use Rattle.rules.specs.Items.{core, put, no-core, no-process, no-channel, core-of, process-of, channel-of}
+use Rattle.rules.specs.Lists.{total, times}
+use Rattle.rules.specs.State.{Place, Progress, Process, Core, queues-of, Channel, State, Wiring}
+use Rattle.rules.specs.Items.{
+  processes,
+  channels,
+  no-core,
+  no-process,
+  no-channel,
+  core-of,
+  process-of,
+  channel-of,
+  with-record,
+  core,
+  place,
+  progress,
+  with-field,
+  put,
+}
 use Rattle.rules.specs.Soundness.{is-process, valid-progress, fits, runs-it, on-cores, in-queues, stands, valid-core, valid-channel}
-use Rattle.rules.proofs.Tests.{tests, all-set}
+use Rattle.rules.proofs.Tests.{within-means, all-set}
+use Rattle.rules.proofs.Nth.{length-set-nth, nth-set-same, nth-set-other, map-set-nth, all-set-nth}
 use Rattle.rules.proofs.Sums.{total-set}
 use Rattle.rules.proofs.Good.{Good}
 use Rattle.rules.proofs.Validity.Reflect.{AllBut, Valid, good-of}
 
-module _ {A : Type 0} where
-  -- a list with another n-th is as long as before
-  length-set-nth : (l : List A) (n : ℕ) (a : A) → length (set-nth l n a) ≡ length l
-  length-set-nth l zero a = refl
-  length-set-nth l (suc i) a = length-set l i a
-
-  -- its n-th is the new one
-  nth-set-same : (l : List A) (n : ℕ) (a d : A) → T (within 1 (length l) n) → nth (set-nth l n a) n d ≡ a
-  nth-set-same l zero a d h = absurd (omega (arith, simp tests at h))
-  nth-set-same l (suc i) a d h = getD-set-same l i a d (omega (arith, simp tests at h))
-
-  -- the others are as before
-  nth-set-other : (l : List A) (n m : ℕ) (a d : A) → (m ≡ n → ⊥) → nth (set-nth l n a) m d ≡ nth l m d
-  nth-set-other l zero m a d h = refl
-  nth-set-other l (suc i) zero a d h = refl
-  nth-set-other l (suc i) (suc j) a d h = getD-set-other l i j a d (λ e. h (ap suc e))
-
-  -- what is read off each is as before, if it is so of the n-th
-  map-set-nth : {B : Type 0} (f : A → B) (l : List A) (n : ℕ) (a d : A) → f a ≡ f (nth l n d) → map f (set-nth l n a) ≡ map f l
-  map-set-nth f l zero a d h = refl
-  map-set-nth f l (suc i) a d h = map-set-same f l i a d h
-
-  -- what holds of each goes on holding, if it holds of the new one
-  all-set-nth : (f : A → Bool) (l : List A) (n : ℕ) (a : A) → T (all f l) → T (f a) → T (all f (set-nth l n a))
-  all-set-nth f l zero a h t = h
-  all-set-nth f l (suc i) a h t = all-set f l i a h t
-
 -- the state with the record of process p changed by f
 abbrev pub changed : ℕ → (Process → Process) → State → State
-changed p f s = record { cores = s .cores; processes = set-nth (s .processes) p (f (process-of s p)); channels = s .channels }
-
--- a process's record with another place
-abbrev pub with-place : Place → Process → Process
-with-place v r = record { place = v; data-word = r .data-word; alternation = r .alternation; progress = r .progress }
-
--- with another data word
-abbrev pub with-data : ℕ → Process → Process
-with-data v r = record { place = r .place; data-word = v; alternation = r .alternation; progress = r .progress }
-
--- with another alternation state
-abbrev pub with-alternation : Alternation → Process → Process
-with-alternation v r = record { place = r .place; data-word = r .data-word; alternation = v; progress = r .progress }
-
--- with another progress
-abbrev pub with-progress : Progress → Process → Process
-with-progress v r = record { place = r .place; data-word = r .data-word; alternation = r .alternation; progress = v }
+changed p f s = with-record processes p (f (process-of s p)) s
 
 -- A process that is as it should be is so at another place and with another progress, if these fit and it stands so.
 pub refit : {w : Wiring} {p : ℕ} {r : Process} {here there here′ there′ : ℕ} → Good w p r here there → (x : Place) (y : Progress)
-    → T (valid-progress w p y) → T (fits x y) → T (stands here′ there′ x) → Good w p (with-place x (with-progress y r)) here′ there′
+    → T (valid-progress w p y) → T (fits x y) → T (stands here′ there′ x) → Good w p (with-field place x (with-field progress y r)) here′ there′
 refit g x y its fit stood = record { word = g .word; count = g .count; in-hand = its; fitting = fit; standing = stood }
 
 -- All is valid but perhaps process p, which has the record r, runs on `here` cores and stands `there` times in a queue.
@@ -108,7 +78,8 @@ module _ {w : Wiring} {p : ℕ} {r : Process} {here there : ℕ} {s : State} whe
   unfolding on-cores in-queues
   change f o =
       let a = o .rest in
-      let inside : T (within 1 (length (s .processes)) p) = rw (ap (λ (x : Wiring). x .N) (a .wired)) (o .named) in
+      let (low, high) = within-means 1 (w .N) p (o .named) in
+      let all : length (s .processes) ≡ w .N = ap (λ (x : Wiring). x .N) (a .wired) in
       record {
         rest =
             record {
@@ -119,7 +90,7 @@ module _ {w : Wiring} {p : ℕ} {r : Process} {here there : ℕ} {s : State} whe
               channels = a .channels;
             };
         named = o .named;
-        its-record = nth-set-same (s .processes) p (f (process-of s p)) no-process inside ∙ ap f (o .its-record);
+        its-record = nth-set-same (s .processes) p (f (process-of s p)) no-process low (omega arith) ∙ ap f (o .its-record);
         its-cores = o .its-cores;
         its-queues = o .its-queues;
       }
@@ -167,7 +138,7 @@ module _ {w : Wiring} {p : ℕ} {s : State} (k : ℕ) (c : Core) (a : AllBut w p
 module _ {w : Wiring} {s : State} (c : ℕ) (d : Channel) (v : Valid w s) where
   -- a channel with the same ends leaves a valid state valid
   pub set-channel : T (valid-channel w d) → d .ends ≡ channel-of s c .ends
-      → Valid w (record { cores = s .cores; processes = s .processes; channels = set-nth (s .channels) c d })
+      → Valid w (with-record channels c d s)
   unfolding on-cores in-queues
   set-channel good-channel same-ends =
       record {

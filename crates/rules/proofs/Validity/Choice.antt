@@ -2,7 +2,7 @@
 use Prim.Native.Nat.{ℕ, zero, suc, _+_, _≤_, _<_}
 use native.Mathlib.Omega.{arith}
 use mathlib.Core.Path.{_≡_, refl, _∙_}
-use mathlib.Core.Bool.{Bool, true, false, _&&_, _||_}
+use mathlib.Core.Bool.{Bool, true, false, _||_}
 use mathlib.Core.List.{List}
 use mathlib.Core.Option.{Option, none, some}
 use lib.Dec.{T, eqb, ltb}
@@ -66,11 +66,12 @@ use Rattle.rules.specs.Soundness.{
   in-list,
   ready-in-list,
   valid-enabling,
+  valid-disabling,
   valid-stage,
   valid-word,
   valid-work,
 }
-use Rattle.rules.proofs.Tests.{tests, and-means, all-nth}
+use Rattle.rules.proofs.Tests.{tests, and-means, both, together, all-nth}
 use Rattle.rules.proofs.Validity.Reflect.{Valid, good-of}
 use Rattle.rules.proofs.Validity.Places.{Runs, running-good}
 use Rattle.rules.proofs.Validity.Channels.{word-written}
@@ -115,112 +116,122 @@ module _ {w : Wiring} {k p : ℕ} {s : State} (h : Runs w k p s) where
   counted : (a : Alternation) → a .count ≤ 9 → Runs w k p (put alternation p a s)
   counted a small = still-runs h refl (alternation-written (h .valid) p (h .named) a small)
 
-  module _ (gs : List ℕ) (own : T (own-guards w p gs)) where
-    -- a guard is a channel that p reads
-    own-guard : (i : ℕ) → T (in-list gs i) → T (own-end w receiving p (guard gs i))
-    own-guard i inside = all-nth (own-end w receiving p) gs i 0 ((simp and-means at own) .0 .1) inside
+  -- a guard is a channel that p reads
+  own-guard : (gs : List ℕ) (i : ℕ) → T (own-guards w p gs) → T (in-list gs i) → T (own-end w receiving p (guard gs i))
+  own-guard gs i own inside = all-nth (own-end w receiving p) gs i 0 ((simp and-means at own) .0 .1) inside
 
-    -- p may be at the stages that have a guard
-    at-guard : (i : ℕ) → T (in-list gs i) → T (valid-enabling w p gs i)
-    at-guard i inside = and-means (own-guards w p gs) (in-list gs i) .1 (own, inside)
+  -- Stages with a guard
+  module _ (gs : List ℕ) (i : ℕ) (its : T (valid-enabling w p gs i)) where
+    own : T (own-guards w p gs)
+    own = both (own-guards w p gs) (in-list gs i) its .0
 
-    module _ (i : ℕ) (inside : T (in-list gs i)) where
-      -- the next guard, if there is one, lies in the list
-      next-inside : ltb i (length gs) ≡ true → T (in-list gs (i + 1))
-      next-inside e = simp tests (omega arith, omega (arith, ltb-true i (length gs) e))
+    inside : T (in-list gs i)
+    inside = both (own-guards w p gs) (in-list gs i) its .1
 
-      -- p may go on after this guard
-      enabled : T (valid-stage w p (enable-next gs i))
-      enabled = either-stage w p (ltb i (length gs)) (enable-look gs (i + 1)) (wait gs) (λ e. at-guard (i + 1) (next-inside e)) own
+    -- p may be at the next guard, if there is one
+    at-next : ltb i (length gs) ≡ true → T (valid-enabling w p gs (i + 1))
+    at-next e = together (own-guards w p gs) (in-list gs (i + 1)) own (simp tests (omega arith, omega (arith, ltb-true i (length gs) e)))
 
-      -- with another word in the guard p runs on
-      its-word : (x : ChannelWord) → T (valid-word w x) → Runs w k p (put channel-word (guard gs i) x s)
-      its-word x named = still-runs h refl (word-written receiving p (guard gs i) (h .valid) (own-guard i inside) x named)
+    -- p may go on after this guard
+    enabled : T (valid-stage w p (enable-next gs i))
+    enabled = either-stage w p (ltb i (length gs)) (enable-look gs (i + 1)) (wait gs) at-next own
 
-      -- look
-      pub enable-look-keeps : Accepts (Valid w) (run (enable-look-step p gs i) s)
-      enable-look-keeps = next-keeps h _ (by-word (get channel-word s (guard gs i)))
-        where
-          by-word : (x : ChannelWord) → T (valid-stage w p (after-enable-look gs i x))
-          by-word nobody = at-guard i inside
-          by-word (plain q) = at-guard i inside
-          by-word (choosing q) = at-guard i inside
+    -- with another word in the guard p runs on
+    its-word : (x : ChannelWord) → T (valid-word w x) → Runs w k p (put channel-word (guard gs i) x s)
+    its-word x named = still-runs h refl (word-written receiving p (guard gs i) (h .valid) (own-guard gs i own inside) x named)
 
-      -- raise
-      pub raise-keeps : Accepts (Valid w) (run (raise-step p gs i) s)
-      raise-keeps = raised-keeps (Valid w) s _ (λ m small. next-keeps (counted _ small) _ (at-guard i inside)) _ count-small
-
-      -- place
-      pub place-keeps : Accepts (Valid w) (run (place-name-step p gs i) s)
-      place-keeps = by-word (get channel-word s (guard gs i))
-        where
-          by-word : (x : ChannelWord) → Accepts (Valid w) (run (name-placed p gs i x) s)
-          by-word nobody = next-keeps (its-word (choosing p) (h .named)) _ enabled
-          by-word (plain q) = next-keeps h _ (at-guard i inside)
-          by-word (choosing q) = next-keeps h _ (at-guard i inside)
-
-      -- ready, from look
-      pub ready-from-look-keeps : Accepts (Valid w) (run (ready-from-look-step p gs i) s)
-      ready-from-look-keeps = next-keeps (counted _ count-small) _ enabled
-
-      -- ready, from place
-      pub ready-from-place-keeps : Accepts (Valid w) (run (ready-from-place-step p gs i) s)
-      ready-from-place-keeps = lowered-keeps (Valid w) s _ (λ m small. next-keeps (counted _ small) _ enabled) _ count-small
-
-      module _ (r : Option ℕ) (ready : T (ready-in-list gs r)) where
-        -- and so in disabling
-        disabled-next : (r′ : Option ℕ) → T (ready-in-list gs r′) → T (valid-stage w p (disable-next gs i r′))
-        disabled-next r′ ready′ =
-            either-stage w p (ltb i (length gs)) (disable gs (i + 1) r′) (finish gs r′)
-            (λ e. and-means (own-guards w p gs && in-list gs (i + 1)) (ready-in-list gs r′) .1 (at-guard (i + 1) (next-inside e), ready′))
-            (and-means (own-guards w p gs) (ready-in-list gs r′) .1 (own, ready′))
-
-        -- the first ready guard lies in the list
-        first-kept : (r′ : Option ℕ) → T (ready-in-list gs r′) → T (ready-in-list gs (keep-first r′ i))
-        first-kept none its = inside
-        first-kept (some j) its = its
-
-        -- disable
-        pub disable-keeps : Accepts (Valid w) (run (disable-step p gs i r) s)
-        disable-keeps = by-word (get channel-word s (guard gs i))
-          where
-            lowers : T (valid-stage w p (lower gs i r))
-            lowers = and-means (own-guards w p gs && in-list gs i) (ready-in-list gs r) .1 (at-guard i inside, ready)
-
-            by-owner : (b : Bool)
-                → Accepts (Valid w)
-                (run (if b then (becomes channel-word (guard gs i) nobody >> next p (lower gs i r)) else next p (disable-next gs i r)) s)
-            by-owner true = next-keeps (its-word nobody tt) _ lowers
-            by-owner false = next-keeps h _ (disabled-next r ready)
-
-            by-word : (x : ChannelWord) → Accepts (Valid w) (run (disabled p gs i r x) s)
-            by-word nobody = next-keeps h _ (disabled-next r ready)
-            by-word (plain q) = next-keeps h _ (disabled-next (keep-first r i) (first-kept r ready))
-            by-word (choosing q) = by-owner (eqb q p)
-
-        -- lower
-        pub lower-keeps : Accepts (Valid w) (run (lower-step p gs i r) s)
-        lower-keeps = lowered-keeps (Valid w) s _ (λ m small. next-keeps (counted _ small) _ (disabled-next r ready)) _ count-small
-
-    -- wait
-    pub wait-keeps : Accepts (Valid w) (run (wait-step k p gs) s)
-    wait-keeps = by-flag (get alternation s p .not-ready)
+    -- look
+    pub enable-look-keeps : Accepts (Valid w) (run (enable-look-step p gs i) s)
+    enable-look-keeps = next-keeps h _ (by-word (get channel-word s (guard gs i)))
       where
-        first : T (valid-stage w p (disable gs 1 none))
-        first = and-means (valid-enabling w p gs 1) true .1 (at-guard 1 (simp tests (omega arith, (simp tests at own) .0 .0 .0)), tt)
+        by-word : (x : ChannelWord) → T (valid-stage w p (after-enable-look gs i x))
+        by-word nobody = its
+        by-word (plain q) = its
+        by-word (choosing q) = its
 
-        by-flag : (b : Bool) → Accepts (Valid w) (run (waits k p gs (get alternation s p) b) s)
-        by-flag true = sleeps-keeps (counted _ count-small) _ no-task first tt tt
-        by-flag false = next-keeps (counted _ count-small) _ first
+    -- raise
+    pub raise-keeps : Accepts (Valid w) (run (raise-step p gs i) s)
+    raise-keeps = raised-keeps (Valid w) s _ (λ m small. next-keeps (counted _ small) _ its) _ count-small
 
-    -- finish
-    pub finish-keeps : (r : Option ℕ) → T (ready-in-list gs r) → Accepts (Valid w) (run (finish-step k p gs r) s)
-    finish-keeps none ready = tt
-    finish-keeps (some i) ready = lowered-keeps (Valid w) s _ (λ m small. ends m (counted _ small)) _ count-small
+    -- place
+    pub place-keeps : Accepts (Valid w) (run (place-name-step p gs i) s)
+    place-keeps = by-word (get channel-word s (guard gs i))
       where
-        ends : {s : State} (m : ℕ) → Runs w k p s → Accepts (Valid w) (run (finished k p (guard gs i) m) s)
-        ends zero h′ = reports-keeps h′ (chose (guard gs i))
-        ends (suc n) h′ = sleeps-keeps h′ (due (chose (guard gs i))) no-task (own-guard i ready) tt tt
+        by-word : (x : ChannelWord) → Accepts (Valid w) (run (name-placed p gs i x) s)
+        by-word nobody = next-keeps (its-word (choosing p) (h .named)) _ enabled
+        by-word (plain q) = next-keeps h _ its
+        by-word (choosing q) = next-keeps h _ its
+
+    -- ready, from look
+    pub ready-from-look-keeps : Accepts (Valid w) (run (ready-from-look-step p gs i) s)
+    ready-from-look-keeps = next-keeps (counted _ count-small) _ enabled
+
+    -- ready, from place
+    pub ready-from-place-keeps : Accepts (Valid w) (run (ready-from-place-step p gs i) s)
+    ready-from-place-keeps = lowered-keeps (Valid w) s _ (λ m small. next-keeps (counted _ small) _ enabled) _ count-small
+
+  -- Stages with a guard and a first ready guard
+  module _ (gs : List ℕ) (i : ℕ) (r : Option ℕ) (its : T (valid-disabling w p gs i r)) where
+    here : T (valid-enabling w p gs i)
+    here = both (valid-enabling w p gs i) (ready-in-list gs r) its .0
+
+    ready : T (ready-in-list gs r)
+    ready = both (valid-enabling w p gs i) (ready-in-list gs r) its .1
+
+    -- p may go on after this guard
+    disabled-next : (r′ : Option ℕ) → T (ready-in-list gs r′) → T (valid-stage w p (disable-next gs i r′))
+    disabled-next r′ ready′ =
+        either-stage w p (ltb i (length gs)) (disable gs (i + 1) r′) (finish gs r′)
+        (λ e. together (valid-enabling w p gs (i + 1)) (ready-in-list gs r′) (at-next gs i here e) ready′)
+        (together (own-guards w p gs) (ready-in-list gs r′) (own gs i here) ready′)
+
+    -- the first ready guard lies in the list
+    first-kept : (r′ : Option ℕ) → T (ready-in-list gs r′) → T (ready-in-list gs (keep-first r′ i))
+    first-kept none _ = inside gs i here
+    first-kept (some j) lies = lies
+
+    -- disable
+    pub disable-keeps : Accepts (Valid w) (run (disable-step p gs i r) s)
+    disable-keeps = by-word (get channel-word s (guard gs i))
+      where
+        by-owner : (b : Bool)
+            → Accepts (Valid w)
+            (run (if b then (becomes channel-word (guard gs i) nobody >> next p (lower gs i r)) else next p (disable-next gs i r)) s)
+        by-owner true = next-keeps (its-word gs i here nobody tt) _ its
+        by-owner false = next-keeps h _ (disabled-next r ready)
+
+        by-word : (x : ChannelWord) → Accepts (Valid w) (run (disabled p gs i r x) s)
+        by-word nobody = next-keeps h _ (disabled-next r ready)
+        by-word (plain q) = next-keeps h _ (disabled-next (keep-first r i) (first-kept r ready))
+        by-word (choosing q) = by-owner (eqb q p)
+
+    -- lower
+    pub lower-keeps : Accepts (Valid w) (run (lower-step p gs i r) s)
+    lower-keeps = lowered-keeps (Valid w) s _ (λ m small. next-keeps (counted _ small) _ (disabled-next r ready)) _ count-small
+
+  -- wait
+  pub wait-keeps : (gs : List ℕ) → T (own-guards w p gs) → Accepts (Valid w) (run (wait-step k p gs) s)
+  wait-keeps gs own = by-flag (get alternation s p .not-ready)
+    where
+      first : T (valid-stage w p (disable gs 1 none))
+      first =
+          together (valid-enabling w p gs 1) true
+          (together (own-guards w p gs) (in-list gs 1) own (simp tests (omega arith, (simp tests at own) .0 .0 .0))) tt
+
+      by-flag : (b : Bool) → Accepts (Valid w) (run (waits k p gs (get alternation s p) b) s)
+      by-flag true = sleeps-keeps (counted _ count-small) _ no-task first tt tt
+      by-flag false = next-keeps (counted _ count-small) _ first
+
+  -- finish
+  pub finish-keeps : (gs : List ℕ) (r : Option ℕ) → T (valid-stage w p (finish gs r)) → Accepts (Valid w) (run (finish-step k p gs r) s)
+  finish-keeps gs none its = tt
+  finish-keeps gs (some i) its = lowered-keeps (Valid w) s _ (λ m small. ends m (counted _ small)) _ count-small
+    where
+      ends : {s : State} (m : ℕ) → Runs w k p s → Accepts (Valid w) (run (finished k p (guard gs i) m) s)
+      ends zero h′ = reports-keeps h′ (chose (guard gs i))
+      ends (suc n) h′ =
+          let (own, ready) = both (own-guards w p gs) (in-list gs i) its in
+          sleeps-keeps h′ (due (chose (guard gs i))) no-task (own-guard gs i own ready) tt tt
 
 -- The kernel tasks
 

@@ -29,7 +29,7 @@ use Rattle.rules.specs.State.{
   Wiring,
   end-of,
 }
-use Rattle.rules.specs.Items.{alternation, progress, get, put, core-of}
+use Rattle.rules.specs.Items.{core-of, place, alternation, progress, with-field, get, put}
 use Rattle.rules.specs.Rule.{Rule, _>>=_, _>>_, run}
 use Rattle.rules.specs.Requests.{
   Request,
@@ -52,7 +52,7 @@ use Rattle.rules.specs.Calls.{a-request}
 use Rattle.rules.specs.Claims.{sends-word}
 use Rattle.rules.proofs.Tests.{tests, and-means, leb-means, unless-means, or-left, or-right, or-cases}
 use Rattle.rules.proofs.Validity.Reflect.{Valid}
-use Rattle.rules.proofs.Validity.Changes.{with-place, with-progress, refit, close, change}
+use Rattle.rules.proofs.Validity.Changes.{refit, close, change}
 use Rattle.rules.proofs.Validity.Places.{leaves, joined, Runs, runs-there, running-good, running-open}
 use Rattle.rules.proofs.Validity.Rules.{Accepts, still-runs, data-written, alternation-written, progress-written, work-written}
 
@@ -131,11 +131,11 @@ module _ {w : Wiring} {k p : ℕ} {s : State} (h : Runs w k p s) (idle : get pro
   asks-keeps (choose gs) small =
       past-test (Valid w) s _ (within 1 8 (length gs)) _ (λ few. past-guards (Valid w) s _ w p [] gs (λ owns once _. begun gs few owns once))
   asks-keeps yield small =
-      let queue = joined k (change (with-place queued) (change (with-progress (due go)) (running-open h))) (h .on) refl in
+      let queue = joined k (change (with-field place queued) (change (with-field progress (due go)) (running-open h))) (h .on) refl in
       close (leaves k queue (h .on) no-task (work-written k (h .valid) (h .on) _ ∙ h .work) tt refl)
       (refit (running-good h) queued (due go) tt tt tt)
   asks-keeps end small =
-      close (leaves k (change (with-place ended) (running-open h)) (h .on) no-task (h .work) tt refl)
+      close (leaves k (change (with-field place ended) (running-open h)) (h .on) no-task (h .work) tt refl)
       (refit (running-good h) ended (get progress s p) (running-good h .in-hand) (rw idle tt) tt)
 
 module _ {w : Wiring} {s : State} (k : ℕ) (v : Valid w s) (on : k < w .K) (r : Request) (small : T (sends-word (a-request r))) where

@@ -28,13 +28,13 @@ use Rattle.rules.specs.State.{
   State,
   Wiring,
 }
-use Rattle.rules.specs.Items.{core, place, data-word, alternation, progress, get, put, no-core, core-of, process-of}
+use Rattle.rules.specs.Items.{no-core, core-of, process-of, core, place, data-word, alternation, progress, with-field, get, put}
 use Rattle.rules.specs.Rule.{Rule, _>>_, Ran, accepted, refused, run}
 use Rattle.rules.specs.Steps.{with-work, with-active, next, sleeps, reports, joins, must-sleep, wakes}
 use Rattle.rules.specs.Soundness.{is-process, valid-stage, valid-progress, fits, valid-work}
 use Rattle.rules.proofs.Tests.{tests}
 use Rattle.rules.proofs.Validity.Reflect.{Valid, good-of}
-use Rattle.rules.proofs.Validity.Changes.{with-place, with-data, with-alternation, with-progress, refit, close, change, open-at}
+use Rattle.rules.proofs.Validity.Changes.{refit, close, change, open-at}
 use Rattle.rules.proofs.Validity.Places.{good-work, core-good, amend, same-standing, leaves, joined, Runs, is-running, running-good, running-open}
 
 -- what holds of the state that a rule accepts
@@ -61,20 +61,20 @@ module _ {w : Wiring} {s : State} (v : Valid w s) (p : ℕ) (named : T (is-proce
   -- a process may have another data word
   pub data-written : (n : ℕ) → n < 4294967296 → Valid w (put data-word p n s)
   data-written n small =
-      amend p (with-data n) v named
+      amend p (with-field data-word n) v named
       (λ here there g. record { word = small; count = g .count; in-hand = g .in-hand; fitting = g .fitting; standing = g .standing })
 
   -- another alternation state
   pub alternation-written : (a : Alternation) → a .count ≤ 9 → Valid w (put alternation p a s)
   alternation-written a small =
-      amend p (with-alternation a) v named
+      amend p (with-field alternation a) v named
       (λ here there g. record { word = g .word; count = small; in-hand = g .in-hand; fitting = g .fitting; standing = g .standing })
 
 module _ {w : Wiring} {k p : ℕ} {s : State} (h : Runs w k p s) where
   -- p may have another progress
   pub progress-written : (x : Progress) → T (valid-progress w p x) → T (fits running x) → Valid w (put progress p x s)
   progress-written x its fit =
-      amend p (with-progress x) (h .valid) (h .named) (λ here there g. refit g (process-of s p .place) x its (rw (is-running h) fit) (g .standing))
+      amend p (with-field progress x) (h .valid) (h .named) (λ here there g. refit g (process-of s p .place) x its (rw (is-running h) fit) (g .standing))
 
   -- p goes on at another stage
   pub next-keeps : (x : Stage) → T (valid-stage w p x) → Accepts (Valid w) (run (next p x) s)
@@ -88,7 +88,7 @@ module _ {w : Wiring} {k p : ℕ} {s : State} (h : Runs w k p s) where
   pub sleeps-keeps : (then : Progress) (t : Task) → T (valid-progress w p then) → T (fits asleep then) → T (valid-work w (free t))
       → Accepts (Valid w) (run (sleeps k p then t) s)
   sleeps-keeps then t its fit task =
-      close (leaves k (change (with-place asleep) (change (with-progress then) (running-open h))) (h .on) t (h .work) task refl)
+      close (leaves k (change (with-field place asleep) (change (with-field progress then) (running-open h))) (h .on) t (h .work) task refl)
       (refit (running-good h) asleep then its fit tt)
 
 module _ {w : Wiring} {s : State} (k : ℕ) (v : Valid w s) (on : k < w .K) where
@@ -121,7 +121,7 @@ module _ {w : Wiring} {s : State} (k : ℕ) (v : Valid w s) (on : k < w .K) wher
           let g = good-of q v named in
           let stood = simp tests at (rw is-asleep at (g .standing)) in
           let fit = fits-queue (process-of s q .progress) (rw is-asleep at (g .fitting)) in
-          close (joined k (change (with-place queued) (open-at q v named (stood .0) (stood .1))) on refl)
+          close (joined k (change (with-field place queued) (open-at q v named (stood .0) (stood .1))) on refl)
           (refit g queued (process-of s q .progress) (g .in-hand) fit tt)
 
       by-place : (x : Place) → get place s q ≡ x → Accepts P (run (must-sleep x >> joins k q >> rest) s)

@@ -4,12 +4,10 @@ use native.Mathlib.Omega.{arith}
 use mathlib.Core.Path.{_≡_, refl, sym, ap}
 use mathlib.Core.Bool.{Bool, true, false}
 use mathlib.Core.List.{List, [], _∷_}
-use mathlib.Core.Option.{Option}
 use lib.Dec.{T}
 use Rattle.rules.specs.Lists.{all, total, times}
 use Rattle.rules.specs.State.{
   running,
-  Way,
   Stage,
   look,
   park,
@@ -39,28 +37,15 @@ use Rattle.rules.specs.State.{
   State,
   Wiring,
 }
-use Rattle.rules.specs.Items.{core, place, progress, get, put, no-core, core-of, process-of}
+use Rattle.rules.specs.Items.{no-core, core-of, process-of, core, place, progress, with-field, get, put}
 use Rattle.rules.specs.Rule.{run}
 use Rattle.rules.specs.Scheduler.{taken, take-step, stored, store-step, load-step, schedule, stage-step, running-step, work-step, step}
-use Rattle.rules.specs.Soundness.{
-  is-process,
-  own-end,
-  own-guards,
-  in-list,
-  ready-in-list,
-  valid-enabling,
-  valid-disabling,
-  valid-stage,
-  fits,
-  on-cores,
-  in-queues,
-  not-empty,
-}
+use Rattle.rules.specs.Soundness.{is-process, valid-stage, fits, on-cores, in-queues, not-empty}
 use Rattle.rules.proofs.Tests.{and-means, all-append}
 use Rattle.rules.proofs.Sums.{total-append, counts-once}
 use Rattle.rules.proofs.Good.{Good}
 use Rattle.rules.proofs.Validity.Reflect.{Valid, good-of}
-use Rattle.rules.proofs.Validity.Changes.{with-place, with-progress, refit, Open, open-at, close, change, queued-in, queues-after}
+use Rattle.rules.proofs.Validity.Changes.{refit, Open, open-at, close, change, queued-in, queues-after}
 use Rattle.rules.proofs.Validity.Places.{stands-once, core-good, same-standing, taken-off, Runs, running-good, works-on, runs-there}
 use Rattle.rules.proofs.Validity.Rules.{Accepts, reports-clears}
 use Rattle.rules.proofs.Validity.Steps.{look-keeps, park-keeps, copy-keeps, clear-keeps, wake-keeps}
@@ -141,8 +126,8 @@ module _ {w : Wiring} {k : ℕ} {s : State} (v : Valid w s) (on : k < w .K) wher
           put place p running
           (put core k (record { work = runs p; active = rest; dispatch = n; mark = core-of s k .mark; run-queue = core-of s k .run-queue }) s)
 
-      o : Open w p (with-place running (process-of s p)) 1 0 now
-      o = change (with-place running) (taken-off k (head-open p rest active) on rest n no-task work active dispatch refl refl)
+      o : Open w p (with-field place running (process-of s p)) 1 0 now
+      o = change (with-field place running) (taken-off k (head-open p rest active) on rest n no-task work active dispatch refl refl)
 
       g : Good w p (process-of s p) (on-cores s p) (in-queues s p)
       g = good-of p v (o .named)
@@ -156,7 +141,7 @@ module _ {w : Wiring} {k : ℕ} {s : State} (v : Valid w s) (on : k < w .K) wher
       by-progress (doing x) e = goes-on (rw e tt)
       by-progress (due out) e =
           reports-clears (Valid w) now p out
-          (close (change (with-progress nothing) o) (refit g running nothing tt tt tt))
+          (close (change (with-field progress nothing) o) (refit g running nothing tt tt tt))
 
   -- whichever of the four it is
   schedule-keeps : (n : ℕ) (a : List ℕ) (b : List (List ℕ)) → core-of s k .work ≡ free no-task → core-of s k .dispatch ≡ n → core-of s k .active ≡ a
@@ -169,40 +154,22 @@ module _ {w : Wiring} {k : ℕ} {s : State} (v : Valid w s) (on : k < w .K) wher
 -- The stages of a request
 
 module _ {w : Wiring} {k p : ℕ} {s : State} (h : Runs w k p s) where
-  -- the tests of a stage with a partner
-  partnered : (way : Way) (c q : ℕ) → T (valid-stage w p (copy way c q)) → T (own-end w way p c) × T (is-process w q)
-  partnered way c q its = and-means (own-end w way p c) (is-process w q) .0 its
-
-  -- of one at a guard
-  guarded : (gs : List ℕ) (i : ℕ) → T (valid-enabling w p gs i) → T (own-guards w p gs) × T (in-list gs i)
-  guarded gs i its = and-means (own-guards w p gs) (in-list gs i) .0 its
-
-  -- of one with a first ready guard
-  with-ready : (gs : List ℕ) (i : ℕ) (r : Option ℕ) → T (valid-disabling w p gs i r) → T (valid-enabling w p gs i) × T (ready-in-list gs r)
-  with-ready gs i r its = and-means (valid-enabling w p gs i) (ready-in-list gs r) .0 its
-
   -- whatever the stage of p's request is
   stage-keeps : (x : Stage) → T (valid-stage w p x) → Accepts (Valid w) (run (stage-step k p x) s)
   stage-keeps (look way c) its = look-keeps way c h its
   stage-keeps (park way c) its = park-keeps way c h its
-  stage-keeps (copy way c q) its = let (own, named) = partnered way c q its in copy-keeps way c q h own named
-  stage-keeps (clear way c q) its = let (own, named) = partnered way c q its in clear-keeps way c h own q named
-  stage-keeps (wake way c q) its = let (own, named) = partnered way c q its in wake-keeps way c h own q named
-  stage-keeps (enable-look gs i) its = let (own, inside) = guarded gs i its in enable-look-keeps h gs own i inside
-  stage-keeps (raise gs i) its = let (own, inside) = guarded gs i its in raise-keeps h gs own i inside
-  stage-keeps (place-name gs i) its = let (own, inside) = guarded gs i its in place-keeps h gs own i inside
-  stage-keeps (ready-from-look gs i) its = let (own, inside) = guarded gs i its in ready-from-look-keeps h gs own i inside
-  stage-keeps (ready-from-place gs i) its = let (own, inside) = guarded gs i its in ready-from-place-keeps h gs own i inside
+  stage-keeps (copy way c q) its = copy-keeps way c q h its
+  stage-keeps (clear way c q) its = clear-keeps way c q h its
+  stage-keeps (wake way c q) its = wake-keeps way c q h its
+  stage-keeps (enable-look gs i) its = enable-look-keeps h gs i its
+  stage-keeps (raise gs i) its = raise-keeps h gs i its
+  stage-keeps (place-name gs i) its = place-keeps h gs i its
+  stage-keeps (ready-from-look gs i) its = ready-from-look-keeps h gs i its
+  stage-keeps (ready-from-place gs i) its = ready-from-place-keeps h gs i its
   stage-keeps (wait gs) its = wait-keeps h gs its
-  stage-keeps (disable gs i r) its =
-      let (here, ready) = with-ready gs i r its in
-      let (own, inside) = guarded gs i here in
-      disable-keeps h gs own i inside r ready
-  stage-keeps (lower gs i r) its =
-      let (here, ready) = with-ready gs i r its in
-      let (own, inside) = guarded gs i here in
-      lower-keeps h gs own i inside r ready
-  stage-keeps (finish gs r) its = let (own, ready) = and-means (own-guards w p gs) (ready-in-list gs r) .0 its in finish-keeps h gs own r ready
+  stage-keeps (disable gs i r) its = disable-keeps h gs i r its
+  stage-keeps (lower gs i r) its = lower-keeps h gs i r its
+  stage-keeps (finish gs r) its = finish-keeps h gs r its
 
   -- whatever p has in hand
   running-keeps : (x : Progress) → get progress s p ≡ x → Accepts (Valid w) (run (running-step k p x) s)

@@ -2,6 +2,7 @@
 use Prim.Native.Nat.{ℕ, _+_, _%_}
 use native.Mathlib.Omega.{arith}
 use mathlib.Core.Path.{refl}
+use mathlib.Core.Bool.{_&&_}
 use lib.Dec.{T}
 use Rattle.rules.specs.State.{
   Way,
@@ -24,7 +25,7 @@ use Rattle.rules.specs.Items.{data-word, channel-word, transfers, get, p
 use Rattle.rules.specs.Rule.{run}
 use Rattle.rules.specs.Steps.{next, after-look, look-step, outcome, parked, park-step, copy-step, clear-step, reports, wake-step}
 use Rattle.rules.specs.Soundness.{is-process, own-end, valid-stage, valid-progress, valid-word}
-use Rattle.rules.proofs.Tests.{and-means}
+use Rattle.rules.proofs.Tests.{both, together}
 use Rattle.rules.proofs.Validity.Reflect.{Valid, good-of}
 use Rattle.rules.proofs.Validity.Places.{Runs}
 use Rattle.rules.proofs.Validity.Channels.{channel-good, word-written, transfers-written}
@@ -42,7 +43,7 @@ module _ {w : Wiring} {k p : ℕ} {s : State} (way : Way) (c : ℕ) (h : Runs w 
 
   -- a partner may be p's at the stages that have one
   with-partner : (q : ℕ) → T (is-process w q) → T (valid-stage w p (copy way c q))
-  with-partner q named = and-means (own-end w way p c) (is-process w q) .1 (own, named)
+  with-partner q named = together (own-end w way p c) (is-process w q) own named
 
   -- look
   pub look-keeps : Accepts (Valid w) (run (look-step p way c) s)
@@ -66,30 +67,34 @@ module _ {w : Wiring} {k p : ℕ} {s : State} (way : Way) (c : ℕ) (h : Runs w 
       parked-keeps way c (still-runs h refl (word-written way p c (h .valid) own (plain p) (h .named))) own (get channel-word s c)
       (its-word way c h own)
 
-  module _ (q : ℕ) (named : T (is-process w q)) where
-    -- clear
-    pub clear-keeps : Accepts (Valid w) (run (clear-step p way c q) s)
-    clear-keeps =
-        next-keeps (still-runs h refl (word-written way p c (h .valid) own nobody tt)) (wake way c q)
-        (with-partner way c h own q named)
+-- Stages with a partner
+module _ {w : Wiring} {k p : ℕ} {s : State} (way : Way) (c q : ℕ) (h : Runs w k p s) (its : T (own-end w way p c && is-process w q)) where
+  own : T (own-end w way p c)
+  own = both (own-end w way p c) (is-process w q) its .0
 
-    -- wake
-    pub wake-keeps : Accepts (Valid w) (run (wake-step k p way c q) s)
-    wake-keeps =
-        wakes-keeps k (h .valid) (h .on) (Valid w) q (reports p (outcome way c)) named
-        (λ v. reports-keeps (still-runs h (work-written k (h .valid) (h .on) _) v) (outcome way c))
+  named : T (is-process w q)
+  named = both (own-end w way p c) (is-process w q) its .1
 
-    -- the data word of y is written into that of x, and counted
-    copied : (x y : ℕ) → T (is-process w x) → T (is-process w y)
-        → Accepts (Valid w)
-        (run (next p (clear way c q)) (put transfers c ((get transfers s c + 1) % 4294967296) (put data-word x (get data-word s y) s)))
-    copied x y to-named from-named =
-        let written = data-written (h .valid) x to-named (get data-word s y) (good-of y (h .valid) from-named .word) in
-        next-keeps (still-runs h refl (transfers-written way p c written own _ (omega arith))) (clear way c q)
-        (with-partner way c h own q named)
+  -- clear
+  pub clear-keeps : Accepts (Valid w) (run (clear-step p way c q) s)
+  clear-keeps = next-keeps (still-runs h refl (word-written way p c (h .valid) own nobody tt)) (wake way c q) its
+
+  -- wake
+  pub wake-keeps : Accepts (Valid w) (run (wake-step k p way c q) s)
+  wake-keeps =
+      wakes-keeps k (h .valid) (h .on) (Valid w) q (reports p (outcome way c)) named
+      (λ v. reports-keeps (still-runs h (work-written k (h .valid) (h .on) _) v) (outcome way c))
+
+  -- the data word of y is written into that of x, and counted
+  copied : (x y : ℕ) → T (is-process w x) → T (is-process w y)
+      → Accepts (Valid w)
+      (run (next p (clear way c q)) (put transfers c ((get transfers s c + 1) % 4294967296) (put data-word x (get data-word s y) s)))
+  copied x y to-named from-named =
+      let written = data-written (h .valid) x to-named (get data-word s y) (good-of y (h .valid) from-named .word) in
+      next-keeps (still-runs h refl (transfers-written way p c written own _ (omega arith))) (clear way c q) its
 
 -- copy
-pub copy-keeps : {w : Wiring} {k p : ℕ} {s : State} (way : Way) (c q : ℕ) → Runs w k p s → T (own-end w way p c) → T (is-process w q)
+pub copy-keeps : {w : Wiring} {k p : ℕ} {s : State} (way : Way) (c q : ℕ) → Runs w k p s → T (own-end w way p c && is-process w q)
     → Accepts (Valid w) (run (copy-step p way c q) s)
-copy-keeps {p} sending c q h own named = copied sending c h own q named q p named (h .named)
-copy-keeps {p} receiving c q h own named = copied receiving c h own q named p q (h .named) named
+copy-keeps {p} sending c q h its = copied sending c q h its q p (named sending c q h its) (h .named)
+copy-keeps {p} receiving c q h its = copied receiving c q h its p q (h .named) (named receiving c q h its)
