@@ -10,30 +10,14 @@ use lib.Seq.{sets, sets-eq}
 use borrow.Author.Tests.{lt-ltb, le-ltb, ltb-true, ltb-false}
 use Rattle.rules.specs.Lists.{if_then_else_}
 use Rattle.rules.specs.State.{State}
-use Rattle.rules.specs.Items.{core-of, channel-of}
+use Rattle.rules.specs.Items.{core-of, channel-of, Region, cores, processes, channels}
 use Rattle.rules.specs.Layout.{room, core-at, process-at, channel-at}
 use Rattle.rules.specs.SetUp.{ends-of, new-core, new-process, new-channel, set-up-state}
 use Rattle.rules.specs.Packing.{header-words, core-words, process-words, channel-words, pack}
 use Rattle.rules.proofs.Tests.{here-or-there}
 use Rattle.rules.proofs.Packing.Regions.{Dims, Words, Holds, Same, held-once}
 use Rattle.rules.proofs.Packing.Blocks.{dims, words-of, pack-holds, first-part, second-part}
-use Rattle.packing.proofs.Focus.{
-  Region,
-  cores,
-  processes,
-  channels,
-  size-in,
-  Has,
-  address,
-  words-in,
-  focus,
-  block,
-  focus-start,
-  focus-writes,
-  holds-same,
-  writes,
-  below,
-}
+use Rattle.packing.proofs.Focus.{size-in, Has, address, words-in, focus, block, focus-start, focus-writes, holds-same, writes, below}
 use Rattle.rules.proofs.Tabulate.{length-tabulate}
 use Rattle.rules.proofs.Validity.SetUp.{ends-length}
 use Rattle.set_up.specs.Filled.{up-to, last-of, in-turn, header-filled, core-filled, process-filled, channel-filled, Ready}
