@@ -21,8 +21,8 @@ use Rattle.rules.proofs.Packing.Blocks.{second-part}
 use Rattle.rules.proofs.Tests.{three, all-at}
 use Rattle.rules.proofs.Tabulate.{tabulate-at}
 use Rattle.rules.proofs.Packing.Reading.{alternation-words}
+use Rattle.rules.proofs.Nth.{nth-set-same}
 use Rattle.packing.proofs.ReadLaws.{padded-listed}
-use Rattle.packing.proofs.WriteLaws.{nth-set-same}
 use Rattle.parts.specs.Does.{At}
 use Rattle.parts.proofs.Card.{own-end-range, runs-range}
 use Rattle.parts.proofs.Packs.{Packs, IsProcess, IsChannel, card-packs, still-process, progress-kept, process-read, progress-read, word-written}

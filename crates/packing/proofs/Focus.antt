@@ -11,6 +11,7 @@ use lib.ListN.{length, getD, set, length-set, length-append}
 use lib.Seq.{getD-set-same, getD-set-other, set-append-left}
 use borrow.Author.Tests.{eqb-true, eqb-false, lt-ltb, ne-eqb}
 use Rattle.rules.specs.Lists.{if_then_else_, all}
+use Rattle.rules.specs.Items.{Region, cores, processes, channels}
 use Rattle.rules.specs.Layout.{core-stride, process-stride, channel-stride, core-at, process-at, channel-at, room}
 use Rattle.rules.proofs.Tests.{same-test, apart, here-or-there, both}
 use Rattle.rules.proofs.Packing.Regions.{Dims, Words, Holds, Same}
@@ -93,10 +94,6 @@ writes-inside (w ∷ ws) a l z m n e e′ h =
         ∙ ap (λ (t : List ℕ). t ++ z) (ap (λ (i : ℕ). set (a ++ l) (i + w .0) (w .1)) (sym e) ∙ set-append-right a l (w .0) (w .1))
 
 -- Words of a table with one block given as a list
-
--- the regions of a table that have blocks
-pub data Region : Type 0 where
-  cores processes channels : Region
 
 -- how many words a block of a region has
 abbrev pub size-in : Region → ℕ

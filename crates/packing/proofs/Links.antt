@@ -11,7 +11,7 @@ use lib.Seq.{getD-set-same, getD-set-other, set-getD}
 use borrow.Author.Tests.{eqb-true, eqb-false, leb-false, ltb-false}
 use Rattle.rules.specs.Lists.{if_then_else_, total, bit, times, first, last, follows}
 use Rattle.rules.specs.State.{Process, Core, queues-of, State}
-use Rattle.rules.specs.Items.{core-of, process-of, no-core, put, core}
+use Rattle.rules.specs.Items.{cores, core-of, process-of, no-core, put, core}
 use Rattle.rules.specs.Layout.{core-stride, process-stride, core-at, process-at, channel-at, room, core-first, core-spare, process-next, process-last, process-size, process-next-head, process-spare, links-size}
 use Rattle.rules.specs.Packing.{heads, spare, if-head, next-link, head-link, batch-link, core-words, process-words, work-words, pack}
 use Rattle.rules.specs.Soundness.{in-queues}
@@ -21,8 +21,8 @@ use Rattle.rules.proofs.Packing.Blocks.{dims, words-of, pack-holds, length-prog
 use Rattle.rules.proofs.Packing.Reading.{link-words, rest-words}
 use Rattle.packing.proofs.ReadLaws.{own-words, process-split, listed, core-list, core-listed}
 use Rattle.rules.proofs.Tests.{by-test, same-test, apart, here-or-there, both, together}
-use Rattle.packing.proofs.States.{dims-core, packed, same-header}
-use Rattle.packing.proofs.Focus.{written, holds-set, writes, below, cores, focus, focus-writes, length-writes, focus-start, holds-same}
+use Rattle.packing.proofs.States.{dims-record, packed, same-header}
+use Rattle.packing.proofs.Focus.{written, holds-set, writes, below, focus, focus-writes, length-writes, focus-start, holds-same}
 use Rattle.rules.proofs.Sums.{total-set, total-alone}
 use Rattle.rules.proofs.QueueLists.{no-next, no-head, no-next-head}
 
@@ -214,9 +214,9 @@ linked-word n L s h p (suc (suc (suc (suc j)))) low high b = absurd (omega arith
 pub held-last : (s : State) (k : ℕ) (c : Core) (l : List ℕ) (L : ℕ → ℕ → ℕ) (t : List ℕ) → k < length (s .cores) → Held s k l L t
     → l ≡ core-list c → Linked (length (s .processes)) L (put core k c s) → t ≡ pack (put core k c s)
 held-last s k c l L t inside h e linked =
-    packed s s′ _ t (dims-core k c s) (h .held)
+    packed s s′ _ t (dims-record cores k c s) (h .held)
     (record {
-      header = λ f b. ap (λ (l : List ℕ). getD l f 0) (same-header s s′ (dims-core k c s));
+      header = λ f b. ap (λ (l : List ℕ). getD l f 0) (same-header s s′ (dims-record cores k c s));
       core = λ i f b b′. here-or-there k i _ _ (λ x. getD (core-words (core-of s′ x)) f 0) (λ q. ap (λ (l : List ℕ). getD l f 0) here)
           (λ ne. ap (λ (x : Core). getD (core-words x) f 0) (sym (getD-set-other (s .cores) k i c no-core ne)));
       process = λ p f low b b′.

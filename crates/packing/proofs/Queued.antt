@@ -10,7 +10,7 @@ use lib.Seq.{getD-set-same, getD-set-other}
 use borrow.Author.Tests.{eqb-true, eqb-false}
 use Rattle.rules.specs.Lists.{within, all, total, from, bit, times}
 use Rattle.rules.specs.State.{Core, queues-of, State, wiring}
-use Rattle.rules.specs.Items.{Region, Record, no-core, core-of, with-record, Kind, core, region, Val, put}
+use Rattle.rules.specs.Items.{Region, cores, processes, channels, Record, record-of, with-record, Kind, core, region, Val, with-field, no-core, core-of, put}
 use Rattle.rules.specs.SetUp.{sizes}
 use Rattle.rules.specs.Soundness.{in-queues, valid-process, valid-work, not-empty, valid-core, valid-channel, valid}
 use Rattle.packing.specs.Queues.{with-queues, Queued}
@@ -18,7 +18,7 @@ use Rattle.rules.proofs.Tests.{both, together, all-at, all-append, all-one}
 use Rattle.rules.proofs.Packing.Reflect.{valid-means}
 use Rattle.rules.proofs.Packing.Chains.{queued-once}
 use Rattle.rules.proofs.Packing.Regions.{Dims}
-use Rattle.packing.proofs.States.{dims-put}
+use Rattle.packing.proofs.States.{dims-record}
 use Rattle.rules.proofs.Sums.{total-set, total-append, times-append}
 use Rattle.packing.proofs.Links.{times-in}
 use Rattle.packing.proofs.Standing.{active-among, batches-among}
@@ -72,20 +72,21 @@ queued-same s s′ e e′ h =
       once = subst₂ (λ (l : List Core) (n : ℕ). (p : ℕ) → 1 ≤ p → p ≤ n → total (times-in p) l ≤ 1) e e′ (h .once);
     }
 
--- a process or a channel, and no core
-abbrev no-queues : Region → Bool
-no-queues Region.cores = false
-no-queues Region.processes = true
-no-queues Region.channels = true
+-- any region but that of the cores
+abbrev no-cores : Region → Bool
+no-cores cores = false
+no-cores processes = true
+no-cores channels = true
 
--- Every item but a core leaves the queues in order.
-pub queued-put : (x : Kind) (i : ℕ) (v : Val x) (s : State) → T (no-queues (region x)) → Queued s → Queued (put x i v s)
-queued-put x i v s other h = queued-same s _ (by-region (region x) _ other) (ap (λ (d : Dims). d .N) (sym (dims-put x i v s))) h
-  where
-    by-region : (g : Region) (r : Record g) → T (no-queues g) → s .cores ≡ with-record g i r s .cores
-    by-region Region.cores r none = absurd none
-    by-region Region.processes r _ = refl
-    by-region Region.channels r _ = refl
+-- Every record but a core's leaves the queues in order.
+queued-record : (g : Region) (n : ℕ) (r : Record g) (s : State) → T (no-cores g) → Queued s → Queued (with-record g n r s)
+queued-record cores n r s other h = absurd other
+queued-record processes n r s other h = queued-same s _ refl (ap (λ (d : Dims). d .N) (sym (dims-record processes n r s))) h
+queued-record channels n r s other h = queued-same s _ refl refl h
+
+-- So does every item but a core.
+pub queued-put : (x : Kind) (i : ℕ) (v : Val x) (s : State) → T (no-cores (region x)) → Queued s → Queued (put x i v s)
+queued-put x i v s other h = queued-record (region x) i (with-field x v (record-of (region x) s i)) s other h
 
 -- Queues
 

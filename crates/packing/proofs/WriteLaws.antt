@@ -1,29 +1,13 @@
 -- Write laws: writes into one block of a packing give the packing of the state with another item.
-use Prim.Native.Nat.{ℕ, zero, suc, _+_, _-_, _≤_, _<_}
+use Prim.Native.Nat.{ℕ, _+_, _-_, _≤_, _<_}
 use mathlib.Core.Path.{_≡_, refl, sym, ap, _∙_, ap₂}
 use mathlib.Core.List.{List, [], _∷_, _++_}
-use native.Mathlib.Omega.{arith}
 use lib.Dec.{T, lit≤}
 use lib.ListN.{length, getD, set, length-set}
-use lib.Seq.{getD-set-same, getD-set-other, set-set}
-use Rattle.rules.specs.Lists.{nth, set-nth, total, follows, last}
+use lib.Seq.{getD-set-same, set-set}
+use Rattle.rules.specs.Lists.{total, follows, last}
 use Rattle.rules.specs.State.{Place, Alternation, Progress, Process, ChannelWord, Channel, Core, State}
-use Rattle.rules.specs.Items.{
-  no-core,
-  no-process,
-  no-channel,
-  core-of,
-  process-of,
-  channel-of,
-  put,
-  core,
-  place,
-  data-word,
-  alternation,
-  progress,
-  channel-word,
-  transfers,
-}
+use Rattle.rules.specs.Items.{Region, cores, processes, channels, with-record, no-core, no-process, no-channel, core-of, process-of, channel-of, put, core, place, data-word, alternation, progress, channel-word, transfers}
 use Rattle.rules.specs.Layout.{core-stride, process-stride, channel-stride, core-at, process-at, channel-at, process-place, process-data, process-enabling, process-progress, progress-size, channel-holder, channel-transfers}
 use Rattle.rules.specs.Packing.{place-number, word-number, heads, if-head, core-words, progress-words, next-link, head-link, batch-link, process-words, channel-words, pack}
 use Rattle.rules.proofs.Packing.Regions.{Same}
@@ -39,25 +23,10 @@ use Rattle.rules.proofs.Packing.Blocks.{
 use Rattle.packing.proofs.Links.{links-of, held-first, held-writes, held-last, next-kept, head-kept, next-head-kept}
 use Rattle.rules.proofs.Packing.Reading.{alternation-words, rest-words}
 use Rattle.packing.proofs.ReadLaws.{listed, listed-same, core-list, own-words, channel-list, process-split}
+use Rattle.rules.proofs.Nth.{nth-set-same, nth-set-other}
 use Rattle.rules.proofs.Tests.{here-or-there}
-use Rattle.packing.proofs.States.{with-process, with-channel, dims-process, dims-channel, packed, same-header}
-use Rattle.packing.proofs.Focus.{
-  Region,
-  cores,
-  processes,
-  channels,
-  size-in,
-  Has,
-  address,
-  words-in,
-  focus,
-  focus-start,
-  focus-writes,
-  writes,
-  below,
-  writes-inside,
-  below-shifted,
-}
+use Rattle.packing.proofs.States.{dims-record, packed, same-header}
+use Rattle.packing.proofs.Focus.{size-in, Has, address, words-in, focus, focus-start, focus-writes, writes, below, writes-inside, below-shifted}
 
 -- the words of a block of a state
 abbrev pub block-words : Region → State → ℕ → List ℕ
@@ -87,55 +56,42 @@ writes-law r s s′ j at ws h b e same turned =
     own processes f = refl
     own channels f = refl
 
--- Lists counted from 1
-
-module _ {A : Type 0} where
-  -- what is there after one element was set: that one in its place, and the others
-  pub nth-set-same : (l : List A) (p : ℕ) (a d : A) → 1 ≤ p → p ≤ length l → nth (set-nth l p a) p d ≡ a
-  nth-set-same l zero a d low high = absurd (omega arith)
-  nth-set-same l (suc i) a d low high = getD-set-same l i a d (omega arith)
-
-  nth-set-other : (l : List A) (p i : ℕ) (a d : A) → (i ≡ p → ⊥) → nth (set-nth l p a) i d ≡ nth l i d
-  nth-set-other l zero i a d ne = refl
-  nth-set-other l (suc p) zero a d ne = refl
-  nth-set-other l (suc p) (suc i) a d ne = getD-set-other l p i a d (λ e. ne (ap suc e))
-
 -- Processes
 
 -- Writes that turn a process's own words into another's
 pub process-law : (s : State) (p : ℕ) (r : Process) (at : ℕ → ℕ) (ws : List (ℕ × ℕ))
     → 1 ≤ p → p ≤ length (s .processes) → T (below process-stride at ws)
     → writes ws at (own-words (process-of s p) ++ rest-words s p) ≡ own-words r ++ rest-words s p
-    → writes ws (λ f. process-at (length (s .cores)) p (at f)) (pack s) ≡ pack (with-process p r s)
+    → writes ws (λ f. process-at (length (s .cores)) p (at f)) (pack s) ≡ pack (with-record processes p r s)
 unfolding next-link head-link batch-link
 process-law s p r at ws low high b turned =
-    writes-law processes s (with-process p r s) p at ws (low, high) b (dims-process p r s)
+    writes-law processes s (with-record processes p r s) p at ws (low, high) b (dims-record processes p r s)
     (record {
-      header = λ f b′. ap (λ (l : List ℕ). getD l f 0) (same-header s (with-process p r s) (dims-process p r s));
+      header = λ f b′. ap (λ (l : List ℕ). getD l f 0) (same-header s (with-record processes p r s) (dims-record processes p r s));
       core = λ i f b′ b″. refl;
       process = λ i f low′ b′ b″.
-          here-or-there p i _ _ (λ x. getD (process-words (with-process p r s) x) f 0) (λ e. refl)
+          here-or-there p i _ _ (λ x. getD (process-words (with-record processes p r s) x) f 0) (λ e. refl)
           (λ ne. ap (λ (l : List ℕ). getD l f 0) (others i ne));
       channel = λ i f low′ b′ b″. refl;
     })
     (ap (writes ws at) (process-split s p) ∙ turned ∙ sym here)
   where
-    here : process-words (with-process p r s) p ≡ own-words r ++ rest-words s p
+    here : process-words (with-record processes p r s) p ≡ own-words r ++ rest-words s p
     here =
-        process-split (with-process p r s) p
+        process-split (with-record processes p r s) p
         ∙ ap (λ (x : Process). own-words x ++ rest-words s p) (nth-set-same (s .processes) p r no-process low high)
 
-    others : (i : ℕ) → (i ≡ p → ⊥) → process-words s i ≡ process-words (with-process p r s) i
+    others : (i : ℕ) → (i ≡ p → ⊥) → process-words s i ≡ process-words (with-record processes p r s) i
     others i ne =
         process-split s i
         ∙ ap (λ (x : Process). own-words x ++ rest-words s i) (sym (nth-set-other (s .processes) p i r no-process ne))
-        ∙ sym (process-split (with-process p r s) i)
+        ∙ sym (process-split (with-record processes p r s) i)
 
 -- Writes into n words that begin at word m, with the words a before them and z behind
 part-law : (s : State) (p : ℕ) (r : Process) (ws : List (ℕ × ℕ)) (a l l′ z : List ℕ) (m n : ℕ) → 1 ≤ p → p ≤ length (s .processes)
     → length a ≡ m → length l ≡ n → m + n ≤ process-stride → T (below n (λ j. j) ws) → writes ws (λ j. j) l ≡ l′
     → own-words (process-of s p) ++ rest-words s p ≡ a ++ l ++ z → a ++ l′ ++ z ≡ own-words r ++ rest-words s p
-    → writes ws (λ j. process-at (length (s .cores)) p (m + j)) (pack s) ≡ pack (with-process p r s)
+    → writes ws (λ j. process-at (length (s .cores)) p (m + j)) (pack s) ≡ pack (with-record processes p r s)
 part-law s p r ws a l l′ z m n low high e e′ fits b turned before after =
     process-law s p r (λ j. m + j) ws low high (below-shifted ws m n process-stride fits b)
     (ap (writes ws (λ j. m + j)) before ∙ writes-inside ws a l z m n e e′ b ∙ ap (λ (l : List ℕ). a ++ l ++ z) turned ∙ after)
@@ -178,16 +134,16 @@ on-listed x ws e = ap (writes ws (λ j. j)) (listed-same (progress-words x) prog
 pub channel-law : (s : State) (c : ℕ) (r : Channel) (at : ℕ → ℕ) (ws : List (ℕ × ℕ))
     → 1 ≤ c → c ≤ length (s .channels) → T (below channel-stride at ws)
     → writes ws at (channel-list (channel-of s c)) ≡ channel-list r
-    → writes ws (λ f. channel-at (length (s .cores)) (length (s .processes)) c (at f)) (pack s) ≡ pack (with-channel c r s)
+    → writes ws (λ f. channel-at (length (s .cores)) (length (s .processes)) c (at f)) (pack s) ≡ pack (with-record channels c r s)
 unfolding process-words next-link head-link batch-link channel-words
 channel-law s c r at ws low high b turned =
-    writes-law channels s (with-channel c r s) c at ws (low, high) b (dims-channel c r s)
+    writes-law channels s (with-record channels c r s) c at ws (low, high) b (dims-record channels c r s)
     (record {
-      header = λ f b′. ap (λ (l : List ℕ). getD l f 0) (same-header s (with-channel c r s) (dims-channel c r s));
+      header = λ f b′. ap (λ (l : List ℕ). getD l f 0) (same-header s (with-record channels c r s) (dims-record channels c r s));
       core = λ i f b′ b″. refl;
       process = λ i f low′ b′ b″. refl;
       channel = λ i f low′ b′ b″.
-          here-or-there c i _ _ (λ x. getD (channel-list (channel-of (with-channel c r s) x)) f 0) (λ e. refl)
+          here-or-there c i _ _ (λ x. getD (channel-list (channel-of (with-record channels c r s) x)) f 0) (λ e. refl)
           (λ ne. ap (λ (x : Channel). getD (channel-list x) f 0) (sym (nth-set-other (s .channels) c i r no-channel ne)));
     })
     (turned ∙ ap channel-list (sym (nth-set-same (s .channels) c r no-channel low high)))

@@ -15,9 +15,10 @@ use Rattle.rules.proofs.Laws.Items.{put-other}
 use Rattle.packing.proofs.Focus.{writes, below}
 use Rattle.packing.proofs.ReadLaws.{listed, core-list, process-list, channel-list, read-core, read-process, read-progress}
 use Rattle.packing.proofs.ReadLaws.{read-channel}
-use Rattle.packing.proofs.States.{with-process, length-set-nth}
+use Rattle.packing.proofs.States.{with-process}
 use Rattle.rules.proofs.Packing.ViewChannel.{word-back}
 use Rattle.rules.proofs.Packing.Reading.{alternation-words, queue-words}
+use Rattle.rules.proofs.Nth.{length-set-nth}
 use Rattle.packing.proofs.WriteLaws.{put-place, put-data-word, put-alternation, put-progress, on-listed, put-channel-word, put-transfers, put-core}
 use Rattle.parts.specs.Does.{Card}
 use Rattle.parts.specs.Shared.{task-table, asleep-table, cleared}

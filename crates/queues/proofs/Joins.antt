@@ -6,8 +6,8 @@ use Rattle.rules.specs.State.{queued, State}
 use Rattle.rules.specs.Items.{put, core-of, core, place}
 use Rattle.rules.specs.Layout.{process-at, process-place, place-queued}
 use Rattle.rules.specs.Steps.{with-active}
+use Rattle.rules.proofs.Nth.{length-set-nth}
 use Rattle.packing.specs.Queues.{push-table, Queued}
-use Rattle.packing.proofs.States.{length-set-nth}
 use Rattle.parts.proofs.Packs.{Packs, IsProcess, on-pack, as-packed, still}
 use Rattle.queues.specs.Fits.{CanJoin}
 use Rattle.queues.proofs.Fits.{can-join}

@@ -14,8 +14,8 @@ use Rattle.rules.specs.Rule.{Rule, Ran, run, done, write, _>>_}
 use Rattle.rules.specs.Requests.{Request, send, receive, choose, yield, end, request, asks, unless, proper-end, proper-guards, choice-begun}
 use Rattle.rules.specs.Layout.{room, process-at, process-place, process-data, process-progress, channel-writer, channel-reader, place-queued, place-ended, task-none, at-send-look, at-receive-look, due-go}
 use Rattle.rules.specs.Packing.{view, M-of}
+use Rattle.rules.proofs.Nth.{length-set-nth}
 use Rattle.packing.specs.Queues.{push-table, Queued}
-use Rattle.packing.proofs.States.{length-set-nth}
 use Rattle.packing.proofs.Queued.{queued-put}
 use Rattle.answers.specs.Four.{four}
 use Rattle.answers.specs.declared.Reply.{Reply}

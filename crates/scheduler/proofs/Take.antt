@@ -12,7 +12,7 @@ use Rattle.rules.specs.Rule.{run}
 use Rattle.rules.specs.Scheduler.{taken, step}
 use Rattle.rules.specs.Layout.{core-at, process-at, core-first, core-dispatch, process-data, process-progress, process-channel, progress-size, due-go}
 use Rattle.rules.specs.Packing.{view, word-at, progress-words}
-use Rattle.packing.proofs.States.{length-set-nth}
+use Rattle.rules.proofs.Nth.{length-set-nth}
 use Rattle.packing.proofs.Links.{Stands}
 use Rattle.packing.proofs.Standing.{first-stands}
 use Rattle.answers.specs.Four.{four}

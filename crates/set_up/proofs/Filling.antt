@@ -10,29 +10,14 @@ use lib.Seq.{sets, sets-eq}
 use borrow.Author.Tests.{lt-ltb, le-ltb, ltb-true, ltb-false}
 use Rattle.rules.specs.Lists.{if_then_else_}
 use Rattle.rules.specs.State.{State}
-use Rattle.rules.specs.Items.{channel-of}
+use Rattle.rules.specs.Items.{channel-of, Region, processes, channels}
 use Rattle.rules.specs.Layout.{header-size, core-stride, core-at, process-at, channel-at, room, header-cores, header-processes, header-channels, header-spare, process-place, process-progress, channel-writer, channel-reader, place-queued, due-go}
 use Rattle.rules.specs.SetUp.{ends-of, new-core, new-process, new-channel, set-up-state}
 use Rattle.rules.specs.Packing.{spare, header-words, process-words, channel-words, pack}
 use Rattle.rules.proofs.Tests.{here-or-there}
 use Rattle.rules.proofs.Packing.Regions.{Dims, Words, Holds, Same, held-once}
 use Rattle.rules.proofs.Packing.Blocks.{dims, words-of, pack-holds, first-part, second-part}
-use Rattle.packing.proofs.Focus.{
-  Region,
-  processes,
-  channels,
-  size-in,
-  Has,
-  address,
-  words-in,
-  focus,
-  block,
-  focus-start,
-  focus-writes,
-  holds-same,
-  writes,
-  below,
-}
+use Rattle.packing.proofs.Focus.{size-in, Has, address, words-in, focus, block, focus-start, focus-writes, holds-same, writes, below}
 use Rattle.rules.proofs.Tabulate.{length-tabulate}
 use Rattle.rules.proofs.Validity.SetUp.{ends-length}
 use Rattle.parts.proofs.Packs.{Packs}
