@@ -1,6 +1,3 @@
 pub mod Tests
 pub mod Runs
-mod Zeros
-mod ByNumber
-mod Guards
-mod Fails
+pub mod Zeros

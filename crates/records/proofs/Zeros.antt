@@ -7,9 +7,7 @@ use native.Mathlib.Omega.{arith}
 use native.Mathlib.Nat.{zero-add, add-zero}
 use native.Mathlib.Numerals.{add-one}
 use lib.Dec.{eqb}
-use Rattle.rules.specs.Layout.{process-at, process-guards, process-index, process-first-ready, process-first-guard}
 use Rattle.fitting.specs.Twin.{word, zeros}
-use Rattle.records.specs.Parts.{no-guards}
 use Rattle.records.proofs.Runs.{stops, over}
 
 module _ (t : List ℕ) (a end : ℕ) where
@@ -24,7 +22,7 @@ module _ (t : List ℕ) (a end : ℕ) where
   ends false h = refl
 
 -- conjunctions in another order
-regroup : (a b c : Bool) → (a && (b && c)) ≡ (a && b && c)
+pub regroup : (a b c : Bool) → (a && (b && c)) ≡ (a && b && c)
 regroup true b c = refl
 regroup false b c = refl
 
@@ -54,14 +52,3 @@ module _ (t : List ℕ) where
       in-turn true false z u = refl
       in-turn true true false u = refl
       in-turn true true true u = with-true u
-
-  -- the words of a progress without guards: those before the guards' places, and those places, twice four
-  pub guards-by-four : (K p : ℕ) → (eqb (word t (process-at K p process-guards)) 0 && eqb (word t (process-at K p process-index)) 0
-      && eqb (word t (process-at K p process-first-ready)) 0 && zeros t (process-at K p process-first-guard) 4
-      && zeros t (process-at K p process-first-guard + 4) 4)
-      ≡ no-guards t K p
-  guards-by-four K p =
-      let own : ℕ → Bool = λ f. eqb (word t (process-at K p f)) 0 in
-      let before = own process-guards && own process-index && own process-first-ready in
-      let at = process-at K p process-first-guard in
-      sym (regroup before (zeros t at 4) (zeros t (at + 4) 4)) ∙ ap (λ (rest : Bool). before && rest) (sym (zeros-split at 4 4))

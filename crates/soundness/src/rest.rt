@@ -4,8 +4,8 @@ ghost use Prim.Native.Nat.{_≤_};
 ghost use lib.ListN.{length};
 ghost use Rattle.rules.specs.Layout.{room};
 ghost use Rattle.fitting.specs.Twin.{well, processes-fit, channels-fit, rest-fits};
+use processes::process_fits;
 use records::channels::channel_fits;
-use records::processes::process_fits;
 
 fn processes_fit(t: &[u32], cores: usize, processes: u32, channels: u32, met: &[u32; 257]) -> bool
     requires { ⌜ (length (now t) ≡ room cores processes channels) × (processes ≤ 256) ⌝ }
