@@ -41,7 +41,8 @@ use Rattle.rules.specs.State.{
 }
 use Rattle.rules.specs.Items.{core, place, progress, get, put, no-core, core-of, process-of}
 use Rattle.rules.specs.Rule.{run}
-use Rattle.rules.specs.Scheduler.{taken, take-step, stored, store-step, load-step, schedule, stage-step, running-step, work-step, step}
+use Rattle.rules.specs.CoreStep.{stage-step, running-step, work-step, step}
+use Rattle.rules.specs.Scheduler.{taken, take-step, stored, store-step, load-step, schedule}
 use Rattle.rules.specs.Soundness.{
   is-process,
   own-end,
