@@ -9,9 +9,9 @@ use Rattle.rules.specs.Numbers.{AWAITED, no-because}
 use Rattle.rules.specs.State.{Stage, Progress, nothing, doing, due, Work}
 use Rattle.rules.specs.Items.{core-of, process-of}
 use Rattle.rules.specs.Rule.{run}
-use Rattle.rules.specs.Scheduler.{running-step, work-step, step}
+use Rattle.rules.specs.CoreStep.{running-step, work-step, step}
 use Rattle.rules.specs.Layout.{process-at, process-progress, at-nothing, at-send-look, at-finish, due-go, due-sent, due-got, due-chose}
-use Rattle.rules.specs.Packing.{view, N-of, progress-list, progress-numbered}
+use Rattle.rules.specs.Packing.{view, progress-list, progress-numbered}
 use Rattle.rules.proofs.Tests.{within-means}
 use Rattle.rules.proofs.Packing.Numbered.{progress-by-place}
 use Rattle.answers.specs.Four.{four}

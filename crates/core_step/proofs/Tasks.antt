@@ -6,15 +6,14 @@ use mathlib.Core.List.{List, [], _∷_}
 use native.Mathlib.Omega.{arith}
 use lib.Dec.{eqb, lit<, lit≤}
 use lib.ListN.{length, getD}
-use borrow.Author.Tests.{eq-eqb, ne-eqb}
-use Rattle.rules.specs.Lists.{if_then_else_}
+use borrow.Author.Tests.{ne-eqb}
 use Rattle.rules.specs.Numbers.{Answer, MOVED, FAULT, yes-with, no-because}
 use Rattle.rules.specs.State.{Task, no-task, trigger, wake-up, Work, runs, free}
 use Rattle.rules.specs.Items.{core-of}
 use Rattle.rules.specs.Rule.{Ran, run, done, _>>_}
 use Rattle.rules.specs.Steps.{has-task}
 use Rattle.rules.specs.Choice.{trigger-step}
-use Rattle.rules.specs.Scheduler.{work-step, step}
+use Rattle.rules.specs.CoreStep.{work-step, step}
 use Rattle.rules.specs.Layout.{core-at, core-runs, core-task, core-task-process, task-none, task-trigger, task-wake}
 use Rattle.rules.specs.Packing.{view, work-words, work-numbered, word-of-core}
 use Rattle.rules.proofs.Tests.{within-means}

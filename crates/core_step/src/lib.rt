@@ -2,7 +2,7 @@
 ghost use Prim.Native.Nat.{_≤_};
 ghost use Rattle.rules.specs.State.{wake-up};
 ghost use Rattle.rules.specs.Layout.{at-send-look};
-ghost use Rattle.rules.specs.Scheduler.{step};
+ghost use Rattle.rules.specs.CoreStep.{step};
 ghost use Rattle.parts.specs.Does.{Card, Does};
 ghost use Rattle.scheduler.specs.Free.{Free};
 ghost use Rattle.core_step.specs.Running.{Running, Reads, Idle, HasTask};

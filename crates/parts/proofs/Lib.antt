@@ -2,5 +2,4 @@ pub mod Card
 pub mod Seen
 pub mod Rows
 pub mod Packs
-pub mod Wakes
 pub mod Flags

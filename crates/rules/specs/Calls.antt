@@ -10,7 +10,7 @@ use Rattle.rules.specs.Numbers.{Answer, BUILT, Refusal, ANSWER, DAMAGED,
 use Rattle.rules.specs.State.{State, Wiring, users}
 use Rattle.rules.specs.Rule.{Rule, Ran, accepted, refused, run}
 use Rattle.rules.specs.Requests.{Request, send, receive, choose, yield, end, request}
-use Rattle.rules.specs.Scheduler.{step}
+use Rattle.rules.specs.CoreStep.{step}
 use Rattle.rules.specs.SetUp.{set-up-refusal, set-up-state}
 use Rattle.rules.specs.Packing.{pack, view}
 use Rattle.rules.specs.Soundness.{sound}

@@ -6,6 +6,7 @@ pub mod Rule
 pub mod Steps
 pub mod Choice
 pub mod Scheduler
+pub mod CoreStep
 pub mod Requests
 pub mod Layout
 pub mod SetUp

@@ -6,7 +6,8 @@ use Rattle.rules.specs.Numbers.{IDLE}
 use Rattle.rules.specs.State.{free, no-task, Work, State}
 use Rattle.rules.specs.Items.{core-of}
 use Rattle.rules.specs.Rule.{accepted, run}
-use Rattle.rules.specs.Scheduler.{take-step, store-step, load-step, schedule, work-step, step}
+use Rattle.rules.specs.CoreStep.{work-step, step}
+use Rattle.rules.specs.Scheduler.{take-step, store-step, load-step, schedule}
 
 module _ (s : State) (k : ℕ) (free-of : core-of s k .work ≡ free no-task) where
   -- the step is the scheduler's

@@ -11,7 +11,7 @@ use Rattle.rules.specs.Lists.{bit, first, within, all}
 use Rattle.rules.specs.Numbers.{MOVED, IDLE, yes-with}
 use Rattle.rules.specs.State.{Core, no-task}
 use Rattle.rules.specs.Items.{core-of, core, put, no-core}
-use Rattle.rules.specs.Scheduler.{step}
+use Rattle.rules.specs.CoreStep.{step}
 use Rattle.rules.specs.Layout.{core-at, core-first, core-size, core-dispatch, core-mark}
 use Rattle.rules.specs.Packing.{pack, view, word-at}
 use Rattle.packing.specs.Queues.{with-queues}

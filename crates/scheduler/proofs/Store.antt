@@ -5,7 +5,7 @@ use mathlib.Core.List.{List}
 use lib.Dec.{lit<}
 use Rattle.rules.specs.Numbers.{MOVED, yes-with}
 use Rattle.rules.specs.Items.{core-of}
-use Rattle.rules.specs.Scheduler.{step}
+use Rattle.rules.specs.CoreStep.{step}
 use Rattle.rules.specs.Layout.{core-dispatch}
 use Rattle.rules.specs.Packing.{view}
 use Rattle.answers.specs.Four.{four}

@@ -9,7 +9,8 @@ use Rattle.rules.specs.Numbers.{MOVED, GOT, yes-with}
 use Rattle.rules.specs.State.{running, sending, receiving, Stage, look, park, copy, clear, wake, enable-look, raise, place-name, ready-from-look, ready-from-place, wait, disable, lower, finish, Outcome, go, sent, got, chose, Progress, nothing, doing, due, State}
 use Rattle.rules.specs.Items.{core-of, process-of, core, place, put}
 use Rattle.rules.specs.Rule.{run}
-use Rattle.rules.specs.Scheduler.{taken, step}
+use Rattle.rules.specs.CoreStep.{step}
+use Rattle.rules.specs.Scheduler.{taken}
 use Rattle.rules.specs.Layout.{core-at, process-at, core-first, core-dispatch, process-data, process-progress, process-channel, progress-size, due-go}
 use Rattle.rules.specs.Packing.{view, word-at, progress-words}
 use Rattle.rules.proofs.Nth.{length-set-nth}

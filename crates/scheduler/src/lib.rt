@@ -4,7 +4,7 @@ ghost use Prim.Native.Nat.{_*_, min};
 ghost use lib.Dec.{eqb};
 ghost use Rattle.rules.specs.Lists.{bit};
 ghost use Rattle.rules.specs.State.{no-task};
-ghost use Rattle.rules.specs.Scheduler.{step};
+ghost use Rattle.rules.specs.CoreStep.{step};
 ghost use Rattle.parts.specs.Does.{Does};
 ghost use Rattle.queues.specs.Fits.{CanTake};
 ghost use Rattle.scheduler.specs.Free.{Free, Takes, Stores, Loads, taken-table};

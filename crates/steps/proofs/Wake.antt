@@ -9,7 +9,6 @@ use Rattle.rules.specs.Numbers.{Answer, FAULT, yes-with, no-because}
 use Rattle.rules.specs.State.{Way, sending, receiving, wake, nothing, State}
 use Rattle.rules.specs.Items.{process-of, put, progress}
 use Rattle.rules.specs.Layout.{process-at, process-data}
-use Rattle.rules.specs.Packing.{view}
 use Rattle.rules.specs.Rule.{Ran, accepted, run}
 use Rattle.rules.specs.Steps.{outcome, reports, wake-step}
 use Rattle.answers.specs.Four.{four}

@@ -5,13 +5,13 @@ use mathlib.Core.Bool.{Bool, true, false}
 use mathlib.Core.List.{List}
 use native.Mathlib.Omega.{arith}
 use lib.Dec.{lit<}
-use lib.ListN.{length, getD, set, length-map}
+use lib.ListN.{getD, set}
 use Rattle.rules.specs.Numbers.{Answer, FAULT, no-because}
 use Rattle.rules.specs.State.{Place, running, queued, asleep, ended, State, wiring}
 use Rattle.rules.specs.Items.{process-of, get, put}
 use Rattle.rules.specs.Layout.{process-at, process-place, place-queued, place-asleep}
-use Rattle.rules.specs.Packing.{pack, view, place-number}
-use Rattle.rules.specs.Rule.{Rule, done, refuse, read, write, Ran, accepted, refused, run, _>>=_, _>>_}
+use Rattle.rules.specs.Packing.{view, place-number}
+use Rattle.rules.specs.Rule.{Rule, done, refuse, read, write, Ran, accepted, refused, run, _>>_}
 use Rattle.rules.specs.Steps.{must-sleep, joins, wakes}
 use Rattle.rules.proofs.Laws.Frame.{HasWiring, run-wiring}
 use Rattle.packing.specs.Queues.{push-table}

@@ -46,7 +46,7 @@ use Rattle.rules.specs.State.{
 use Rattle.rules.specs.Items.{channels, Kind, place, data-word, progress, transfers, Kind-discrete, Item, core-of, get, put, no-core}
 use Rattle.rules.specs.Rule.{Rule, Ran, accepted, refused, run}
 use Rattle.rules.specs.Steps.{copy-step}
-use Rattle.rules.specs.Scheduler.{running-step, work-step}
+use Rattle.rules.specs.CoreStep.{running-step, work-step}
 use Rattle.rules.specs.Requests.{Request, send, receive, choose, yield, end, request}
 use Rattle.rules.specs.Packing.{view}
 use Rattle.rules.specs.Soundness.{own-end, is-process, valid, sound}

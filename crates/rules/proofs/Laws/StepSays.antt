@@ -57,7 +57,8 @@ use Rattle.rules.specs.Items.{place, alternation, channel-word, get, pro
 use Rattle.rules.specs.Rule.{Rule, done, refuse, run, _>>=_, _>>_}
 use Rattle.rules.specs.Steps.{joins, must-sleep, outcome, parked, reports}
 use Rattle.rules.specs.Choice.{guard, lowered, raised, name-placed, waits, disabled, finished}
-use Rattle.rules.specs.Scheduler.{taken, schedule, stage-step, running-step, work-step}
+use Rattle.rules.specs.CoreStep.{stage-step, running-step, work-step}
+use Rattle.rules.specs.Scheduler.{taken, schedule}
 use Rattle.rules.specs.Soundness.{fits}
 use Rattle.rules.specs.Calls.{the-step}
 use Rattle.rules.specs.Refusals.{Case, _when_, is-asleep, stage-deeds, fault-cases, running-cases, step-cases}

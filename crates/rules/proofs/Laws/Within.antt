@@ -62,7 +62,8 @@ use Rattle.rules.specs.Items.{Kind, core, place, data-word, alternation,
 use Rattle.rules.specs.Rule.{Rule, done, refuse, read, write, Ran, run, go-on, _>>=_, _>>_}
 use Rattle.rules.specs.Steps.{must-sleep, wakes, parked, copies, reports, with-work}
 use Rattle.rules.specs.Choice.{guard, lowered, raised, name-placed, waits, disabled, first-ready, finished}
-use Rattle.rules.specs.Scheduler.{taken, schedule, stage-step, running-step, work-step}
+use Rattle.rules.specs.CoreStep.{stage-step, running-step, work-step}
+use Rattle.rules.specs.Scheduler.{taken, schedule}
 use Rattle.rules.specs.Requests.{Request, send, receive, choose, yield, end, unless, nothing-in-hand, requester, proper-end, proper-guards, asks}
 use Rattle.rules.specs.Calls.{Ask, the-step, a-request, rule-of}
 use Rattle.rules.specs.Touched.{

@@ -39,7 +39,8 @@ use Rattle.rules.specs.State.{
 }
 use Rattle.rules.specs.Items.{no-core, core-of, process-of, core, place, progress, with-field, get, put}
 use Rattle.rules.specs.Rule.{run}
-use Rattle.rules.specs.Scheduler.{taken, take-step, stored, store-step, load-step, schedule, stage-step, running-step, work-step, step}
+use Rattle.rules.specs.CoreStep.{stage-step, running-step, work-step, step}
+use Rattle.rules.specs.Scheduler.{taken, take-step, stored, store-step, load-step, schedule}
 use Rattle.rules.specs.Soundness.{is-process, valid-stage, fits, on-cores, in-queues, not-empty}
 use Rattle.rules.proofs.Tests.{and-means, all-append}
 use Rattle.rules.proofs.Sums.{total-append, counts-once}
