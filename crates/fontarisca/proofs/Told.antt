@@ -7,7 +7,7 @@ use native.Mathlib.Omega.{arith}
 use lib.Dec.{T, ltb}
 use lib.ListN.{length}
 use borrow.Author.Tests.{ltb-true, lt-ltb}
-use Rattle.rules.specs.Numbers.{Answer, BUILT, TAKEN, MOVED, SLEPT, IDLE, GO, SENT, GOT, CHOSE, Refusal, SIZE, PAIRS, ROOM, NAME, SELF, ANSWER, DAMAGED, CORE, BUSY, AWAITED, GUARDS, CHANNEL, OTHER-END, TWICE, FAULT, yes-with, no-because, Lent, well-lent, written}
+use Rattle.rules.specs.Numbers.{Answer, BUILT, TAKEN, MOVED, SLEPT, IDLE, GO, SENT, GOT, CHOSE, Refusal, SIZE, PAIRS, ROOM, NAME, SELF, ANSWER, DAMAGED, CORE, BUSY, AWAITED, GUARDS, CHANNEL, OTHER-END, TWICE, FAULT, yes-with, no-because, refusal-number, Lent, well-lent, written}
 use Rattle.rules.specs.State.{users}
 use Rattle.rules.specs.Layout.{header-size}
 use Rattle.rules.specs.Rule.{Ran, accepted, refused, run}
@@ -75,44 +75,31 @@ T-true : (b : Bool) → T b → b ≡ true
 T-true true h = refl
 T-true false h = absurd h
 
-pub allowed : (t : List ℕ) (answer : Lent) (k : ℕ) → first-refusal t answer k ≡ 0 → Allowed t answer k
-allowed t answer k e = by-answer (well-lent answer) refl
-  where
-    never : (n : ℕ) → first-refusal t answer k ≡ suc n → Allowed t answer k
-    never n f = absurd (let g : suc n ≡ 0 = sym f ∙ e in omega arith)
-
-    by-core : (b : Bool) → ltb k (K-of t) ≡ b → well-lent answer ≡ true → sound t ≡ true → Allowed t answer k
-    by-core true f g h = record { lent = rw g tt; is-sound = rw h tt; inside = ltb-true k (K-of t) f }
-    by-core false f g h = never 26 (rw (g, h, f))
-
-    by-sound : (b : Bool) → sound t ≡ b → well-lent answer ≡ true → Allowed t answer k
-    by-sound true h g = by-core (ltb k (K-of t)) refl g h
-    by-sound false h g = never 25 (rw (g, h))
-
-    by-answer : (b : Bool) → well-lent answer ≡ b → Allowed t answer k
-    by-answer true g = by-sound (sound t) refl g
-    by-answer false g = never 24 (rw g)
-
 module _ (t : List ℕ) (answer : Lent) (k : ℕ) (ask : Ask) where
-  -- a call that is refused first
-  pub refused-first : (n : ℕ) → first-refusal t answer k ≡ n → (n ≡ 0 → ⊥) → Meets (call t answer k ask) (gives n answer t)
+  -- what the number of the first refusal says: where it is 0 the call goes on, otherwise it is refused with that number
+  pub first-says : (n : ℕ) → n ≡ first-refusal t answer k
+      → (n ≡ 0 → Allowed t answer k) × ((n ≡ 0 → ⊥) → Meets (call t answer k ask) (gives n answer t))
   unfolding call
-  refused-first n e some = by-answer (well-lent answer) refl
+  first-says n e = by-tests (well-lent answer) (sound t) (ltb k (K-of t)) refl refl refl
     where
-      by-core : (b : Bool) → ltb k (K-of t) ≡ b → well-lent answer ≡ true → sound t ≡ true → Meets (call t answer k ask) (gives n answer t)
-      by-core true f g h = absurd (some (sym e ∙ rw (g, h, f)))
-      by-core false f g h =
-          let sure : T (sound t) = rw h tt in
-          let none : ltb k (length (view t .cores)) ≡ false = ap (ltb k) (sym (K-is t sure)) ∙ f in
-          rw (g, h, none) (record { number = sym e ∙ rw (g, h, f); answer = refl; table = refl })
+      never : (m : ℕ) → n ≡ suc m → n ≡ 0 → Allowed t answer k
+      never m f z = absurd (omega arith)
 
-      by-sound : (b : Bool) → sound t ≡ b → well-lent answer ≡ true → Meets (call t answer k ask) (gives n answer t)
-      by-sound true h g = by-core (ltb k (K-of t)) refl g h
-      by-sound false h g = rw (g, h) (record { number = sym e ∙ rw (g, h); answer = refl; table = refl })
-
-      by-answer : (b : Bool) → well-lent answer ≡ b → Meets (call t answer k ask) (gives n answer t)
-      by-answer true g = by-sound (sound t) refl g
-      by-answer false g = rw g (record { number = sym e ∙ rw g; answer = refl; table = refl })
+      by-tests : (lent is-sound there : Bool) → well-lent answer ≡ lent → sound t ≡ is-sound → ltb k (K-of t) ≡ there
+          → (n ≡ 0 → Allowed t answer k) × ((n ≡ 0 → ⊥) → Meets (call t answer k ask) (gives n answer t))
+      by-tests true true true f g h =
+          let ok : Allowed t answer k = record { lent = rw f tt; is-sound = rw g tt; inside = ltb-true k (K-of t) h } in
+          (λ z. ok, λ some. absurd (some (e ∙ rw (f, g, h))))
+      by-tests true true false f g h =
+          let number : n ≡ refusal-number CORE = e ∙ rw (f, g, h) in
+          let none : ltb k (length (view t .cores)) ≡ false = ap (ltb k) (sym (K-is t (rw g tt))) ∙ h in
+          (never 26 number, λ some. rw (f, g, none) (record { number = number; answer = refl; table = refl }))
+      by-tests true false there f g h =
+          let number : n ≡ refusal-number DAMAGED = e ∙ rw (f, g) in
+          (never 25 number, λ some. rw (f, g) (record { number = number; answer = refl; table = refl }))
+      by-tests false is-sound there f g h =
+          let number : n ≡ refusal-number ANSWER = e ∙ rw f in
+          (never 24 number, λ some. rw f (record { number = number; answer = refl; table = refl }))
 
   -- a call that isn't refused first tells what its rule comes to
   pub told-call : Allowed t answer k → (r : Reply) (w : Lent) (u : List ℕ) → Does (rule-of (users (view t)) ask k) t r u → w ≡ told r answer

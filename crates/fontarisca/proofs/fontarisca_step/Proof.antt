@@ -1,15 +1,14 @@
 -- As in a request.
-use mathlib.Core.Path.{sym, _∙_}
 use borrow.Author.Needs.{needs}
 use Rattle.rules.specs.Calls.{the-step}
 use Rattle.rules.specs.Numbers.{lends}
-use Rattle.fontarisca.proofs.Told.{Allowed, allowed, refused-first, told-call}
+use Rattle.fontarisca.proofs.Told.{Allowed, first-says, told-call}
 use Rattle.fontarisca.proofs.fontarisca_step.Statement.{statement}
 use Rattle.fontarisca.proofs.fontarisca_step.Tie as tie
 
 -- what is known past the first refusals
 not-refused : (c : tie.Else1) → let a = c .before .before .before .before .before .before .args in Allowed (a .table .now) (lends (a .answer .now)) (a .core)
-not-refused c = let a = c .before .before .before .before .before .before .args in allowed (a .table .now) (lends (a .answer .now)) (a .core) (sym (c .before .refused-first .ensures) ∙ c .if1 .left)
+not-refused c = let a = c .before .before .before .before .before .before .args in first-says (a .table .now) (lends (a .answer .now)) (a .core) the-step _ (c .before .refused-first .ensures) .0 (c .if1 .left)
 
 refused-first-requires : tie.Need-refused-first-requires
 refused-first-requires c κs = search needs
@@ -23,7 +22,7 @@ same-length-2 c = search needs
 returns : tie.Need-returns
 returns c =
     let a = c .before .before .before .before .before .before .args in
-    refused-first (a .table .now) (lends (a .answer .now)) (a .core) the-step _ (sym (c .before .refused-first .ensures)) (c .if1 .taken)
+    first-says (a .table .now) (lends (a .answer .now)) (a .core) the-step _ (c .before .refused-first .ensures) .1 (c .if1 .taken)
 
 step-requires : tie.Need-step-requires
 step-requires c κs = let ok = not-refused (c .before) in (ok .is-sound, ok .inside)

@@ -1,16 +1,15 @@
 -- A request that is refused first leaves all as it was; otherwise its rule is done and its words are told.
-use mathlib.Core.Path.{sym, _∙_}
 use borrow.Author.Needs.{needs}
 use Rattle.rules.specs.Calls.{a-request}
 use Rattle.rules.specs.Numbers.{lends}
 use Rattle.requests.specs.Asked.{asked}
-use Rattle.fontarisca.proofs.Told.{Allowed, allowed, refused-first, told-call}
+use Rattle.fontarisca.proofs.Told.{Allowed, first-says, told-call}
 use Rattle.fontarisca.proofs.make_request.Statement.{statement}
 use Rattle.fontarisca.proofs.make_request.Tie as tie
 
 -- what is known past the first refusals
 not-refused : (c : tie.Else1) → let a = c .before .before .before .before .before .before .before .args in Allowed (a .table .now) (lends (a .answer .now)) (a .core)
-not-refused c = let a = c .before .before .before .before .before .before .before .args in allowed (a .table .now) (lends (a .answer .now)) (a .core) (sym (c .before .refused-first .ensures) ∙ c .if1 .left)
+not-refused c = let a = c .before .before .before .before .before .before .before .args in first-says (a .table .now) (lends (a .answer .now)) (a .core) (a-request (asked (a .r) (a .guards .now))) _ (c .before .refused-first .ensures) .0 (c .if1 .left)
 
 refused-first-requires : tie.Need-refused-first-requires
 refused-first-requires c κs = search needs
@@ -24,7 +23,7 @@ same-length-2 c = search needs
 returns : tie.Need-returns
 returns c =
     let a = c .before .before .before .before .before .before .before .args in
-    refused-first (a .table .now) (lends (a .answer .now)) (a .core) (a-request (asked (a .r) (a .guards .now))) _ (sym (c .before .refused-first .ensures)) (c .if1 .taken)
+    first-says (a .table .now) (lends (a .answer .now)) (a .core) (a-request (asked (a .r) (a .guards .now))) _ (c .before .refused-first .ensures) .1 (c .if1 .taken)
 
 request-requires : tie.Need-request-requires
 request-requires c κs = let ok = not-refused (c .before) in (ok .is-sound, ok .inside)
