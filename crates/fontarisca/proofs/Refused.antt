@@ -3,22 +3,22 @@ use Prim.Native.Nat.{ℕ, _≤_, _<_}
 use mathlib.Core.Path.{_≡_}
 use mathlib.Core.Bool.{true, false}
 use mathlib.Core.List.{List}
-use lib.ListN.{length, getD}
-use borrow.Author.Tests.{eq-eqb, ne-eqb, lt-ltb, le-ltb}
+use borrow.Author.Tests.{lt-ltb, le-ltb}
+use Rattle.rules.specs.Numbers.{ANSWER, DAMAGED, CORE, refusal-number, Lent, well-lent}
 use Rattle.rules.specs.Packing.{K-of}
 use Rattle.rules.specs.Soundness.{sound}
 use Rattle.fontarisca.specs.First.{first-refusal}
 
-module _ (t answer : List ℕ) (k : ℕ) where
-  pub no-answer : (length answer ≡ 3 → ⊥) → 25 ≡ first-refusal t answer k
-  no-answer h = rw (ne-eqb (length answer) 3 h)
+module _ (t : List ℕ) (answer : Lent) (k : ℕ) where
+  pub no-answer : well-lent answer ≡ false → refusal-number ANSWER ≡ first-refusal t answer k
+  no-answer e = rw e
 
-  module _ (three : length answer ≡ 3) where
-    pub damaged : sound t ≡ false → 26 ≡ first-refusal t answer k
-    damaged e = rw (eq-eqb (length answer) 3 three, e)
+  module _ (lent : well-lent answer ≡ true) where
+    pub damaged : sound t ≡ false → refusal-number DAMAGED ≡ first-refusal t answer k
+    damaged e = rw (lent, e)
 
-    pub none : sound t ≡ true → k < getD t 0 0 → 0 ≡ first-refusal t answer k
-    none e h = rw (eq-eqb (length answer) 3 three, e, lt-ltb k (K-of t) h)
+    pub none : sound t ≡ true → k < K-of t → 0 ≡ first-refusal t answer k
+    none e h = rw (lent, e, lt-ltb k (K-of t) h)
 
-    pub no-core : sound t ≡ true → getD t 0 0 ≤ k → 27 ≡ first-refusal t answer k
-    no-core e h = rw (eq-eqb (length answer) 3 three, e, le-ltb k (K-of t) h)
+    pub no-core : sound t ≡ true → K-of t ≤ k → refusal-number CORE ≡ first-refusal t answer k
+    no-core e h = rw (lent, e, le-ltb k (K-of t) h)

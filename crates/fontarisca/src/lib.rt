@@ -3,93 +3,79 @@ ghost use mathlib.Core.Path.{_≡_};
 ghost use Prim.Native.Nat.{_<_};
 ghost use lib.Dec.{T};
 ghost use lib.ListN.{getD};
-ghost use Rattle.rules.specs.State.{wiring};
+ghost use Rattle.rules.specs.Numbers.{lends};
+ghost use Rattle.rules.specs.State.{users};
+ghost use Rattle.rules.specs.Layout.{header-size};
 ghost use Rattle.rules.specs.Packing.{K-of, view};
 ghost use Rattle.rules.specs.Soundness.{sound};
-ghost use Rattle.rules.specs.Requests.{request, choose};
-ghost use Rattle.rules.specs.Calls.{rule-of, call, set-up-call, send-call, receive-call, choose-call, yield-call, end-call, step-call};
+ghost use Rattle.rules.specs.Requests.{request};
+ghost use Rattle.rules.specs.CoreStep.{step};
+ghost use Rattle.rules.specs.Calls.{a-request, call, set-up-call, send-call, receive-call, choose-call, yield-call, end-call, step-call};
 ghost use Rattle.rules.specs.Claims.{gives, Meets, builds, MeetsBuilt};
 ghost use Rattle.parts.specs.Does.{Does};
+ghost use Rattle.requests.specs.Asked.{asked};
 ghost use Rattle.fontarisca.specs.First.{first-refusal};
-ghost use Rattle.fontarisca.specs.Asks.{asks};
 use answers::Reply;
-
-// What a call is refused for before its rule is looked at: the answer slice isn't 3 long, the table isn't sound, there is no such
-// core; 0 where it isn't. The soundness check stands here and nowhere else.
-fn refused_first(table: &[u32], answer: &[u32], core: u32) -> u32
-    ensures { λ r. ⌜ r ≡ first-refusal (now (table .entry)) (now (answer .entry)) core ⌝ }
-{
-    if answer.len() != 3 {
-        return answers::ANSWER;
-    }
-    if !soundness::sound(table) {
-        return answers::DAMAGED;
-    }
-    if core < table[0] {
-        return 0;
-    }
-    answers::CORE
-}
+use requests::Request;
 
 // A word of a sound table's header: K, N or M.
 fn header_word(table: &[u32], f: usize) -> u32
-    requires { ⌜ T (sound (now table)) ⌝ ∗ ⌜ f < 8 ⌝ }
+    requires { ⌜ T (sound (now table)) ⌝ ∗ ⌜ f < header-size ⌝ }
     ensures { λ r. ⌜ r ≡ getD (now (table .entry)) f 0 ⌝ }
 {
     table[f]
 }
 
-// What a call asks of its core, but for a choice, whose guards no enum can hold.
-enum Ask {
-    Step,
-    Send(u32, u32),
-    Receive(u32),
-    Yield,
-    End,
-}
-
-// The rule of what is asked, on a sound table with that core.
-fn perform(table: &mut [u32], core: u32, ask: Ask) -> Reply
-    requires { ⌜ T (sound (now table)) ⌝ ∗ ⌜ core < K-of (now table) ⌝ }
-    ensures { λ r. ⌜ Does (rule-of (wiring (view (now (table .entry)))) (asks ask) core)
-        (now (table .entry)) r (now (table .exit)) ⌝ }
+// What a call is refused for before its rule is looked at: what is lent for the answer isn't as long as it must be, the table isn't
+// sound, there is no such core; 0 where it isn't. The soundness check stands here and nowhere else.
+fn refused_first(table: &[u32], answer: &[u32], core: u32) -> u32
+    ensures { λ r. ⌜ r ≡ first-refusal (now (table .entry)) (lends (now (answer .entry))) core ⌝ }
 {
-    let cores = header_word(table, 0) as usize;
-    let processes = header_word(table, 1) as usize;
-    let channels = header_word(table, 2);
-    let k = core as usize;
-    match ask {
-        Ask::Step => core_step::step(table, cores, processes, k),
-        Ask::Send(c, v) => requests::send(table, cores, processes, channels, k, c, v),
-        Ask::Receive(c) => requests::receive(table, cores, processes, channels, k, c),
-        Ask::Yield => requests::yield_core(table, cores, processes, k),
-        Ask::End => requests::end_process(table, cores, processes, k),
+    if !answers::lent_well(answer) {
+        return answers::ANSWER;
     }
+    if !soundness::sound(table) {
+        return answers::DAMAGED;
+    }
+    if core < header_word(table, layout::HEADER_CORES) {
+        return 0;
+    }
+    answers::CORE
 }
 
-// A call: its first refusals, then its rule, whose answer is told.
-fn make_call(table: &mut [u32], answer: &mut [u32], core: u32, ask: Ask) -> u32
-    ensures { λ r. ⌜ Meets (call (now (table .entry)) (now (answer .entry)) core (asks ask)) (gives r (now (answer .exit)) (now (table .exit))) ⌝ }
+// The rule of a request, on a sound table with that core; the guards of a choice go beside it.
+fn request(table: &mut [u32], core: u32, r: Request, guards: &[u32]) -> Reply
+    requires { ⌜ T (sound (now table)) ⌝ ∗ ⌜ core < K-of (now table) ⌝ }
+    ensures { λ a. ⌜ Does (request (users (view (now (table .entry)))) (asked r (now (guards .entry))) core) (now (table .entry)) a (now (table .exit)) ⌝ }
+{
+    let cores = header_word(table, layout::HEADER_CORES) as usize;
+    let processes = header_word(table, layout::HEADER_PROCESSES) as usize;
+    let channels = header_word(table, layout::HEADER_CHANNELS);
+    requests::make(table, cores, processes, channels, core as usize, r, guards)
+}
+
+// A request: its first refusals, then its rule, whose answer is told.
+fn make_request(table: &mut [u32], answer: &mut [u32], core: u32, r: Request, guards: &[u32]) -> u32
+    ensures { λ n. ⌜ Meets (call (now (table .entry)) (lends (now (answer .entry))) core (a-request (asked r (now (guards .entry)))))
+        (gives n (lends (now (answer .exit))) (now (table .exit))) ⌝ }
 {
     let why = refused_first(table, answer, core);
     if why != 0 {
         return why;
     }
-    let r = perform(table, core, ask);
-    answers::tell(answer, r);
-    r.number
+    let told = request(table, core, r, guards);
+    answers::tell(answer, told);
+    told.number
 }
 
-// The rule of a choice, on a sound table with that core.
-fn perform_choice(table: &mut [u32], core: u32, guards: &[u32]) -> Reply
+// The rule of a step, on a sound table with that core.
+fn step(table: &mut [u32], core: u32) -> Reply
     requires { ⌜ T (sound (now table)) ⌝ ∗ ⌜ core < K-of (now table) ⌝ }
-    ensures { λ r. ⌜ Does (request (wiring (view (now (table .entry)))) (choose (now (guards .entry))) core)
-        (now (table .entry)) r (now (table .exit)) ⌝ }
+    ensures { λ r. ⌜ Does (step core) (now (table .entry)) r (now (table .exit)) ⌝ }
 {
-    let cores = header_word(table, 0) as usize;
-    let processes = header_word(table, 1) as usize;
-    let channels = header_word(table, 2);
-    requests::choose(table, cores, processes, channels, core as usize, guards)
+    let cores = header_word(table, layout::HEADER_CORES) as usize;
+    let processes = header_word(table, layout::HEADER_PROCESSES) as usize;
+    core_step::step(table, cores, processes, core as usize)
 }
 
 // Builds a table of k cores, n processes and m channels with these (writer, reader) pairs, whatever it held.
@@ -109,9 +95,9 @@ pub extern "C" fn fontarisca_send(
     channel: u32,
     value: u32,
 ) -> u32
-    ensures { λ r. ⌜ Meets (send-call (now (table .entry)) (now (answer .entry)) core channel value) (gives r (now (answer .exit)) (now (table .exit))) ⌝ }
+    ensures { λ r. ⌜ Meets (send-call (now (table .entry)) (lends (now (answer .entry))) core channel value) (gives r (lends (now (answer .exit))) (now (table .exit))) ⌝ }
 {
-    make_call(table, answer, core, Ask::Send(channel, value))
+    make_request(table, answer, core, Request::Send(channel, value), &[])
 }
 
 // It receives on the channel, of which it is the reader.
@@ -122,9 +108,9 @@ pub extern "C" fn fontarisca_receive(
     core: u32,
     channel: u32,
 ) -> u32
-    ensures { λ r. ⌜ Meets (receive-call (now (table .entry)) (now (answer .entry)) core channel) (gives r (now (answer .exit)) (now (table .exit))) ⌝ }
+    ensures { λ r. ⌜ Meets (receive-call (now (table .entry)) (lends (now (answer .entry))) core channel) (gives r (lends (now (answer .exit))) (now (table .exit))) ⌝ }
 {
-    make_call(table, answer, core, Ask::Receive(channel))
+    make_request(table, answer, core, Request::Receive(channel), &[])
 }
 
 // It chooses over these channels, of which it is the reader.
@@ -135,37 +121,37 @@ pub extern "C" fn fontarisca_choose(
     core: u32,
     guards: &[u32],
 ) -> u32
-    ensures { λ r. ⌜ Meets (choose-call (now (table .entry)) (now (answer .entry)) core (now (guards .entry))) (gives r (now (answer .exit)) (now (table .exit))) ⌝ }
+    ensures { λ r. ⌜ Meets (choose-call (now (table .entry)) (lends (now (answer .entry))) core (now (guards .entry))) (gives r (lends (now (answer .exit))) (now (table .exit))) ⌝ }
 {
-    let why = refused_first(table, answer, core);
-    if why != 0 {
-        return why;
-    }
-    let r = perform_choice(table, core, guards);
-    answers::tell(answer, r);
-    r.number
+    make_request(table, answer, core, Request::Choose, guards)
 }
 
 // It goes to the end of the active queue.
 #[no_mangle]
 pub extern "C" fn fontarisca_yield(table: &mut [u32], answer: &mut [u32], core: u32) -> u32
-    ensures { λ r. ⌜ Meets (yield-call (now (table .entry)) (now (answer .entry)) core) (gives r (now (answer .exit)) (now (table .exit))) ⌝ }
+    ensures { λ r. ⌜ Meets (yield-call (now (table .entry)) (lends (now (answer .entry))) core) (gives r (lends (now (answer .exit))) (now (table .exit))) ⌝ }
 {
-    make_call(table, answer, core, Ask::Yield)
+    make_request(table, answer, core, Request::Yield, &[])
 }
 
 // It ends.
 #[no_mangle]
 pub extern "C" fn fontarisca_end(table: &mut [u32], answer: &mut [u32], core: u32) -> u32
-    ensures { λ r. ⌜ Meets (end-call (now (table .entry)) (now (answer .entry)) core) (gives r (now (answer .exit)) (now (table .exit))) ⌝ }
+    ensures { λ r. ⌜ Meets (end-call (now (table .entry)) (lends (now (answer .entry))) core) (gives r (lends (now (answer .exit))) (now (table .exit))) ⌝ }
 {
-    make_call(table, answer, core, Ask::End)
+    make_request(table, answer, core, Request::End, &[])
 }
 
 // The next atomic step of the core.
 #[no_mangle]
 pub extern "C" fn fontarisca_step(table: &mut [u32], answer: &mut [u32], core: u32) -> u32
-    ensures { λ r. ⌜ Meets (step-call (now (table .entry)) (now (answer .entry)) core) (gives r (now (answer .exit)) (now (table .exit))) ⌝ }
+    ensures { λ r. ⌜ Meets (step-call (now (table .entry)) (lends (now (answer .entry))) core) (gives r (lends (now (answer .exit))) (now (table .exit))) ⌝ }
 {
-    make_call(table, answer, core, Ask::Step)
+    let why = refused_first(table, answer, core);
+    if why != 0 {
+        return why;
+    }
+    let told = step(table, core);
+    answers::tell(answer, told);
+    told.number
 }

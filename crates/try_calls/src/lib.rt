@@ -2,7 +2,7 @@
 // and `unchanged` where the table is as it was. The entries:
 //     case ..                                a heading
 //     length K N M D                         as many words are lent as a table of these sizes has, and D more (`-D`: D fewer); `none`
-//     answers LENGTH                         so many are lent as the answer slice: 0 to 4, and 3 at first
+//     answers LENGTH                         so many are lent as the answer slice: 0 to 4, and at first as many as an answer has
 //     set-up K N M WRITER READER ..          the calls
 //     send CORE CHANNEL VALUE
 //     receive CORE CHANNEL
@@ -104,7 +104,7 @@ fn try_call(s: &[u8], words: &[u32; 16384], count: usize, table: &mut [u32], len
     write_change(
         answered,
         script::same(table, &before),
-        script::part(&answer, 0, 3),
+        script::part(&answer, 0, answers::ANSWER_SIZE),
     );
 }
 
@@ -162,7 +162,7 @@ fn entries(text: &[u8]) {
     let mut table = script::zeros();
     let mut lent = Lent {
         table: 0,
-        answer: 3,
+        answer: answers::ANSWER_SIZE,
     };
     let mut at = 0;
     while at < text.len() {

@@ -1,6 +1,6 @@
 -- A sound table has its header.
-use Rattle.fontarisca.proofs.Told.{header-there}
 use borrow.Author.Needs.{needs}
+use Rattle.fontarisca.proofs.Told.{header-there}
 use Rattle.fontarisca.proofs.header_word.Statement.{statement}
 use Rattle.fontarisca.proofs.header_word.Tie as tie
 

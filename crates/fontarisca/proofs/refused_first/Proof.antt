@@ -1,42 +1,59 @@
 -- The tests are those of the definition.
-use mathlib.Core.Path.{sym, _∙_, subst}
+use mathlib.Core.Path.{_≡_, sym, _∙_}
+use mathlib.Core.Bool.{true}
 use native.Mathlib.Omega.{arith}
-use lib.Dec.{T}
 use borrow.Author.Tests.{not-true, not-false}
-use Rattle.rules.specs.Layout.{header-cores}
-use Rattle.fontarisca.proofs.Told.{header-there}
-use Rattle.fontarisca.proofs.Refused.{no-answer, damaged, none, no-core}
 use borrow.Author.Needs.{needs}
+use Rattle.rules.specs.Soundness.{sound}
+use Rattle.rules.specs.Numbers.{lends, well-lent}
+use Rattle.fontarisca.proofs.Refused.{no-answer, damaged, none, no-core}
 use Rattle.fontarisca.proofs.refused_first.Statement.{statement}
 use Rattle.fontarisca.proofs.refused_first.Tie as tie
 
+-- what is lent is as long as it must be; the table is sound
+lent : (c : tie.Else1) → well-lent (lends (c .before .before .before .before .args .answer .now)) ≡ true
+lent c = sym (c .before .lent-well .ensures) ∙ not-false _ (c .if1 .left)
+
+is-sound : (c : tie.Else2) → sound (c .before .before .before .before .before .before .args .table .now) ≡ true
+is-sound c = sym (c .before .sound .ensures) ∙ not-false _ (c .if2 .left)
+
+lent-well-requires : tie.Need-lent-well-requires
+lent-well-requires c κs = search needs
+
 returns : tie.Need-returns
-returns c = no-answer (c .before .before .before .args .table .now) (c .before .before .before .args .answer .now) (c .before .before .before .args .core) (c .if1 .taken)
+returns c =
+    let a = c .before .before .before .before .args in
+    no-answer (a .table .now) (lends (a .answer .now)) (a .core) (sym (c .before .lent-well .ensures) ∙ not-true _ (c .if1 .taken))
 
 sound-requires : tie.Need-sound-requires
 sound-requires c κs = search needs
 
 returns-2 : tie.Need-returns-2
 returns-2 c =
-    damaged (c .before .before .before .before .before .args .table .now) (c .before .before .before .before .before .args .answer .now) (c .before .before .before .before .before .args .core) (omega arith)
-    (sym (c .before .sound .ensures) ∙ not-true _ (c .if2 .taken))
+    let a = c .before .before .before .before .before .before .args in
+    damaged (a .table .now) (lends (a .answer .now)) (a .core) (lent (c .before .before)) (sym (c .before .sound .ensures) ∙ not-true _ (c .if2 .taken))
 
-shared-slice-read-if3 : tie.Need-shared-slice-read-if3
-shared-slice-read-if3 c =
-    let is-sound = sym (c .before .before .sound .ensures) ∙ not-false _ (c .before .if2 .left) in
-    header-there (c .before .before .before .before .before .before .args .table .now) header-cores (subst T (sym is-sound) tt) (omega arith)
+header-word-requires : tie.Need-header-word-requires
+header-word-requires c κs = (let sure = is-sound c in rw sure tt, omega arith)
 
 returns-3 : tie.Need-returns-3
 returns-3 c =
-    none (c .before .before .before .before .before .before .before .args .table .now) (c .before .before .before .before .before .before .before .args .answer .now) (c .before .before .before .before .before .before .before .args .core) (omega arith)
-    (sym (c .before .before .before .sound .ensures) ∙ not-false _ (c .before .before .if2 .left)) (c .if3 .taken)
+    let a = c .before .before .before .before .before .before .before .before .args in
+    none (a .table .now) (lends (a .answer .now)) (a .core) (lent (c .before .before .before .before)) (is-sound (c .before .before)) (omega arith)
 
 returns-4 : tie.Need-returns-4
 returns-4 c =
-    no-core (c .before .before .before .before .before .before .before .args .table .now) (c .before .before .before .before .before .before .before .args .answer .now) (c .before .before .before .before .before .before .before .args .core) (omega arith)
-    (sym (c .before .before .before .sound .ensures) ∙ not-false _ (c .before .before .if2 .left)) (c .if3 .left)
+    let a = c .before .before .before .before .before .before .before .before .args in
+    no-core (a .table .now) (lends (a .answer .now)) (a .core) (lent (c .before .before .before .before)) (is-sound (c .before .before)) (omega arith)
 
 pub refused-first-spec : {M : Type 1} → statement M
 refused-first-spec =
     tie.close
-    (tie.spec returns sound-requires returns-2 shared-slice-read-if3 returns-3 returns-4)
+    (tie.spec
+    lent-well-requires
+    returns
+    sound-requires
+    returns-2
+    header-word-requires
+    returns-3
+    returns-4)

@@ -1,7 +1,7 @@
--- The header gives the sizes that the choice asks for.
+-- The header gives the sizes that the request asks for.
 use borrow.Author.Needs.{needs}
-use Rattle.fontarisca.proofs.perform_choice.Statement.{statement}
-use Rattle.fontarisca.proofs.perform_choice.Tie as tie
+use Rattle.fontarisca.proofs.request.Statement.{statement}
+use Rattle.fontarisca.proofs.request.Tie as tie
 
 header-word-requires : tie.Need-header-word-requires
 header-word-requires c κs = search needs
@@ -18,8 +18,8 @@ cast-processes c = search needs
 header-word-requires-3 : tie.Need-header-word-requires-3
 header-word-requires-3 c κs = search needs
 
-choose-requires : tie.Need-choose-requires
-choose-requires c κs = (search needs, c .before .header-word3 .ensures)
+make-requires : tie.Need-make-requires
+make-requires c κs = (search needs, c .before .header-word3 .ensures)
 
 same-length : tie.Need-same-length
 same-length c = search needs
@@ -27,8 +27,8 @@ same-length c = search needs
 returns : tie.Need-returns
 returns c = search needs
 
-pub perform-choice-spec : {M : Type 1} → statement M
-perform-choice-spec =
+pub request-spec : {M : Type 1} → statement M
+request-spec =
     tie.close
     (tie.spec
     header-word-requires
@@ -36,6 +36,6 @@ perform-choice-spec =
     header-word-requires-2
     cast-processes
     header-word-requires-3
-    choose-requires
+    make-requires
     same-length
     returns)
