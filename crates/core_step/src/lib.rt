@@ -7,6 +7,25 @@ ghost use Rattle.parts.specs.Does.{Card, Does};
 ghost use Rattle.scheduler.specs.Free.{Free};
 ghost use Rattle.core_step.specs.Running.{Running, Reads, Idle, HasTask};
 use answers::Reply;
+use layout::AT_DISABLE;
+use layout::AT_ENABLE_LOOK;
+use layout::AT_FINISH;
+use layout::AT_LOWER;
+use layout::AT_PLACE_NAME;
+use layout::AT_RAISE;
+use layout::AT_READY_FROM_LOOK;
+use layout::AT_READY_FROM_PLACE;
+use layout::AT_RECEIVE_CLEAR;
+use layout::AT_RECEIVE_COPY;
+use layout::AT_RECEIVE_LOOK;
+use layout::AT_RECEIVE_PARK;
+use layout::AT_RECEIVE_WAKE;
+use layout::AT_SEND_CLEAR;
+use layout::AT_SEND_COPY;
+use layout::AT_SEND_LOOK;
+use layout::AT_SEND_PARK;
+use layout::AT_SEND_WAKE;
+use layout::AT_WAIT;
 use parts::Way;
 
 // The stage of number n, with the channel c and the partner q; AWAITED where no stage has that number.
@@ -24,52 +43,25 @@ fn stage_step(
     ensures { λ r. ⌜ Does (step k) (now (t .entry)) r (now (t .exit)) ⌝ }
 {
     match n {
-        layout::AT_SEND_LOOK => steps::look_step(t, cores, processes, k, p, Way::Sending, c),
-        layout::AT_SEND_PARK => steps::park_step(t, cores, processes, k, p, Way::Sending, c),
-        layout::AT_SEND_COPY => steps::copy_step(t, cores, processes, k, p, Way::Sending, c, q),
-        layout::AT_SEND_CLEAR => steps::clear_step(t, cores, processes, k, p, Way::Sending, c, q),
-        layout::AT_SEND_WAKE => steps::wake_step(t, cores, processes, k, p, Way::Sending, c, q),
-        layout::AT_RECEIVE_LOOK => steps::look_step(t, cores, processes, k, p, Way::Receiving, c),
-        layout::AT_RECEIVE_PARK => steps::park_step(t, cores, processes, k, p, Way::Receiving, c),
-        layout::AT_RECEIVE_COPY => steps::copy_step(
-            t,
-            cores,
-            processes,
-            k,
-            p,
-            Way::Receiving,
-            c,
-            q,
-        ),
-        layout::AT_RECEIVE_CLEAR => steps::clear_step(
-            t,
-            cores,
-            processes,
-            k,
-            p,
-            Way::Receiving,
-            c,
-            q,
-        ),
-        layout::AT_RECEIVE_WAKE => steps::wake_step(
-            t,
-            cores,
-            processes,
-            k,
-            p,
-            Way::Receiving,
-            c,
-            q,
-        ),
-        layout::AT_ENABLE_LOOK => enabling::enable_look_step(t, cores, processes, k, p),
-        layout::AT_RAISE => enabling::raise_step(t, cores, processes, k, p),
-        layout::AT_PLACE_NAME => enabling::place_name_step(t, cores, processes, k, p),
-        layout::AT_READY_FROM_LOOK => enabling::ready_from_look_step(t, cores, processes, k, p),
-        layout::AT_READY_FROM_PLACE => enabling::ready_from_place_step(t, cores, processes, k, p),
-        layout::AT_WAIT => choice::wait_step(t, cores, processes, k, p),
-        layout::AT_DISABLE => choice::disable_step(t, cores, processes, k, p),
-        layout::AT_LOWER => choice::lower_step(t, cores, processes, k, p),
-        layout::AT_FINISH => choice::finish_step(t, cores, processes, k, p),
+        AT_SEND_LOOK => steps::look_step(t, cores, processes, k, p, Way::Sending, c),
+        AT_SEND_PARK => steps::park_step(t, cores, processes, k, p, Way::Sending, c),
+        AT_SEND_COPY => steps::copy_step(t, cores, processes, k, p, Way::Sending, c, q),
+        AT_SEND_CLEAR => steps::clear_step(t, cores, processes, k, p, Way::Sending, c, q),
+        AT_SEND_WAKE => steps::wake_step(t, cores, processes, k, p, Way::Sending, c, q),
+        AT_RECEIVE_LOOK => steps::look_step(t, cores, processes, k, p, Way::Receiving, c),
+        AT_RECEIVE_PARK => steps::park_step(t, cores, processes, k, p, Way::Receiving, c),
+        AT_RECEIVE_COPY => steps::copy_step(t, cores, processes, k, p, Way::Receiving, c, q),
+        AT_RECEIVE_CLEAR => steps::clear_step(t, cores, processes, k, p, Way::Receiving, c, q),
+        AT_RECEIVE_WAKE => steps::wake_step(t, cores, processes, k, p, Way::Receiving, c, q),
+        AT_ENABLE_LOOK => enabling::enable_look_step(t, cores, processes, k, p),
+        AT_RAISE => enabling::raise_step(t, cores, processes, k, p),
+        AT_PLACE_NAME => enabling::place_name_step(t, cores, processes, k, p),
+        AT_READY_FROM_LOOK => enabling::ready_from_look_step(t, cores, processes, k, p),
+        AT_READY_FROM_PLACE => enabling::ready_from_place_step(t, cores, processes, k, p),
+        AT_WAIT => choice::wait_step(t, cores, processes, k, p),
+        AT_DISABLE => choice::disable_step(t, cores, processes, k, p),
+        AT_LOWER => choice::lower_step(t, cores, processes, k, p),
+        AT_FINISH => choice::finish_step(t, cores, processes, k, p),
         _ => answers::refused(answers::AWAITED),
     }
 }
