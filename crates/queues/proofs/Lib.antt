@@ -1,4 +1,4 @@
 pub mod Within
 pub mod Fits
 pub mod Laws
-pub mod Joins
+pub mod Joined

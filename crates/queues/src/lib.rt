@@ -48,7 +48,7 @@ pub fn push(t: &mut [u32], cores: usize, k: usize, q: u32)
 }
 
 // Process q is queued, at the end of the active queue.
-pub fn join(t: &mut [u32], cores: usize, k: usize, q: u32)
+pub fn joins(t: &mut [u32], cores: usize, k: usize, q: u32)
     requires { ⌜ CanJoin (now t) cores k q ⌝ }
     ensures { λ r. ⌜ now (t .exit) ≡ push-table (set (now (t .entry)) (process-at cores q process-place) place-queued) cores k q ⌝ }
 {

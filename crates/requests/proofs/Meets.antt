@@ -21,7 +21,7 @@ use Rattle.answers.specs.Four.{four}
 use Rattle.answers.specs.declared.Reply.{Reply}
 use Rattle.table.specs.Has.{HasCore, HasProcess}
 use Rattle.queues.specs.Fits.{CanJoin}
-use Rattle.queues.proofs.Joins.{may-join, joined, joined-inside}
+use Rattle.queues.proofs.Joined.{may-join, joined, joined-inside}
 use Rattle.parts.specs.Does.{Card, Comes, Does}
 use Rattle.parts.specs.Shared.{task-table}
 use Rattle.parts.proofs.Card.{facts, length-is, cores-are, processes-are, card-core, card-process, card-inside, card-order}

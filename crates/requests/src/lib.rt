@@ -221,7 +221,7 @@ fn yields(t: &mut [u32], cores: usize, processes: usize, channels: u32, k: usize
     ensures { λ r. ⌜ Does (asks (users (view (now (t .entry)))) k p yield) (now (t .entry)) r (now (t .exit)) ⌝ }
 {
     table::set_process_word(t, cores, p, layout::PROCESS_PROGRESS, layout::DUE_GO);
-    queues::join(t, cores, k, p);
+    queues::joins(t, cores, k, p);
     parts::has_task(t, k, layout::TASK_NONE, 0);
     answers::taken(p, 0)
 }

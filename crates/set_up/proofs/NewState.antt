@@ -7,11 +7,11 @@ use lib.ListN.{length, getD, replicate, List·getD-map}
 use Rattle.rules.specs.Lists.{total, follows, last}
 use Rattle.rules.specs.State.{Core, State, queues-of}
 use Rattle.rules.specs.Items.{core-of, process-of, channel-of, no-process}
-use Rattle.rules.specs.Layout.{core-stride, process-stride, channel-stride, process-place, process-progress, links-size, channel-writer, channel-reader, place-queued, due-go}
+use Rattle.rules.specs.Layout.{core-stride, process-stride, channel-stride, process-place, process-progress, process-spare, links-size, channel-writer, channel-reader, place-queued, due-go}
 use Rattle.rules.specs.SetUp.{ends-of, new-core, new-process, new-channel}
-use Rattle.rules.specs.Packing.{heads, if-head, next-link, head-link, batch-link, core-words, process-words, channel-words, progress-words}
-use Rattle.packing.proofs.ReadLaws.{core-listed, own-words, process-split}
+use Rattle.rules.specs.Packing.{heads, if-head, next-link, head-link, batch-link, core-words, process-words, channel-words, progress-words, spare}
 use Rattle.rules.proofs.Packing.Reading.{link-words}
+use Rattle.packing.proofs.ReadLaws.{core-listed, own-words, process-split}
 use Rattle.rules.proofs.Tabulate.{tabulate-at}
 use Rattle.rules.proofs.Validity.SetUp.{total-none}
 use Rattle.packing.proofs.Focus.{writes}
@@ -50,7 +50,7 @@ module _ (k n : ℕ) (pairs : List ℕ) (some-core : 0 < k) where
         → process-words s p ≡ writes ((process-place, place-queued) ∷ (process-progress, due-go) ∷ []) (λ f. f) (replicate process-stride 0)
     unfolding progress-words
     new-process-words low high =
-        process-split s p ∙ (λ i. own-words (is-new p low high i) ++ no-links i)
+        process-split s p ∙ (λ i. own-words (is-new p low high i) ++ (no-links i ++ spare process-stride process-spare))
 
   -- Channels
 

@@ -22,7 +22,7 @@ use Rattle.parts.specs.Does.{Comes}
 use Rattle.parts.proofs.Card.{facts, processes-are, card-process, card-inside, card-order}
 use Rattle.parts.proofs.Packs.{Packs, IsProcess, card-packs, process-read}
 use Rattle.queues.specs.Fits.{CanJoin}
-use Rattle.queues.proofs.Joins.{may-join, joined}
+use Rattle.queues.proofs.Joined.{may-join, joined}
 use Rattle.steps.specs.Wakes.{CanWake, Woken, Wakes}
 
 module _ {t : List ℕ} {cores processes k q : ℕ} (can : CanWake t cores processes k q) where

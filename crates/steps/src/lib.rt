@@ -187,7 +187,7 @@ pub fn wakes(t: &mut [u32], cores: usize, processes: usize, k: usize, q: u32) ->
     if place != layout::PLACE_ASLEEP {
         return false;
     }
-    queues::join(t, cores, k, q);
+    queues::joins(t, cores, k, q);
     true
 }
 

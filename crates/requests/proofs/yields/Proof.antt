@@ -7,8 +7,8 @@ use Rattle.requests.proofs.yields.Tie as tie
 set-process-word-requires : tie.Need-set-process-word-requires
 set-process-word-requires c κs = let has = idle-process (c .before .before .pre) in search needs
 
-join-requires : tie.Need-join-requires
-join-requires c κs = yield-joins (c .before .before .before .before .before .before .pre) (c .before .before .before .set-process-word .ensures)
+joins-requires : tie.Need-joins-requires
+joins-requires c κs = yield-joins (c .before .before .before .before .before .before .pre) (c .before .before .before .set-process-word .ensures)
 
 has-task-requires : tie.Need-has-task-requires
 has-task-requires c κs = let has = idle-core (c .before .before .before .before .before .before .before .before .before .before .pre) in search needs
@@ -27,7 +27,7 @@ yields-spec =
     tie.close
     (tie.spec
     set-process-word-requires
-    join-requires
+    joins-requires
     has-task-requires
     taken-requires
     same-length

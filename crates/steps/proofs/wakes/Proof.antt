@@ -14,8 +14,8 @@ same-length c = search needs
 returns : tie.Need-returns
 returns c = search stays-awake
 
-join-requires : tie.Need-join-requires
-join-requires c κs = search can-join
+joins-requires : tie.Need-joins-requires
+joins-requires c κs = search can-join
 
 same-length-2 : tie.Need-same-length-2
 same-length-2 c = search needs
@@ -26,4 +26,4 @@ returns-2 c = search wakes-up
 pub wakes-spec : {M : Type 1} → statement M
 wakes-spec =
     tie.close
-    (tie.spec process-word-requires same-length returns join-requires same-length-2 returns-2)
+    (tie.spec process-word-requires same-length returns joins-requires same-length-2 returns-2)

@@ -1,8 +1,8 @@
 -- The place of q is no word of the core, so push finds there what it needs.
 use borrow.Author.Needs.{needs}
 use Rattle.queues.proofs.Within.{join-push}
-use Rattle.queues.proofs.join.Statement.{statement}
-use Rattle.queues.proofs.join.Tie as tie
+use Rattle.queues.proofs.joins.Statement.{statement}
+use Rattle.queues.proofs.joins.Tie as tie
 
 set-process-word-requires : tie.Need-set-process-word-requires
 set-process-word-requires c κs = search needs
@@ -18,5 +18,5 @@ same-length c = search needs
 returns : tie.Need-returns
 returns c = cc
 
-pub join-spec : {M : Type 1} → statement M
-join-spec = tie.close (tie.spec set-process-word-requires push-requires same-length returns)
+pub joins-spec : {M : Type 1} → statement M
+joins-spec = tie.close (tie.spec set-process-word-requires push-requires same-length returns)
