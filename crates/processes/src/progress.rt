@@ -60,7 +60,7 @@ fn end_fits(
     requires { ⌜ (length (now t) ≡ room cores processes channels) × (f < channel-stride) ⌝ }
     ensures { λ r. ⌜ r ≡ end-fits (now (t .entry)) cores processes channels p f c ⌝ }
 {
-    read::within(1, channels, c) && table::channel_word(t, cores, processes as usize, c, f) == p
+    read::within(1, channels, c) && table::may_use(t, cores, processes as usize, c, f, p)
 }
 
 // x stands among the `count` words from `from` on.

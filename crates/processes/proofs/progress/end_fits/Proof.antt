@@ -9,8 +9,8 @@ use Rattle.processes.proofs.progress.end_fits.Tie as tie
 within-requires : tie.Need-within-requires
 within-requires c κs = search needs
 
-channel-word-requires : tie.Need-channel-word-requires
-channel-word-requires c κs =
+may-use-requires : tie.Need-may-use-requires
+may-use-requires c κs =
     let w = within-true _ _ _ (sym (c .before .within .ensures) ∙ c .if1 .taken) in
     (w .0, omega arith)
 
@@ -21,4 +21,4 @@ returns-2 : tie.Need-returns-2
 returns-2 c = search branches
 
 pub end-fits-spec : {M : Type 1} → statement M
-end-fits-spec = tie.close (tie.spec within-requires channel-word-requires returns returns-2)
+end-fits-spec = tie.close (tie.spec within-requires may-use-requires returns returns-2)
