@@ -225,110 +225,62 @@ fn stride(kind: u32) -> usize {
 // A word of no record.
 const NO_WORD: usize = 65535;
 
+// The word of a name, if s is that name.
+fn named(s: &[u8], name: &[u8], word: usize, otherwise: usize) -> usize {
+    if is(s, name) { word } else { otherwise }
+}
+
 fn header_word(s: &[u8]) -> usize {
-    if is(s, b"cores") {
-        layout::HEADER_CORES
-    } else if is(s, b"processes") {
-        layout::HEADER_PROCESSES
-    } else if is(s, b"channels") {
-        layout::HEADER_CHANNELS
-    } else if is(s, b"spare") {
-        layout::HEADER_SPARE
-    } else {
-        NO_WORD
-    }
+    let w = named(s, b"cores", layout::HEADER_CORES, NO_WORD);
+    let w = named(s, b"processes", layout::HEADER_PROCESSES, w);
+    let w = named(s, b"channels", layout::HEADER_CHANNELS, w);
+    named(s, b"spare", layout::HEADER_SPARE, w)
 }
 
 fn core_word(s: &[u8]) -> usize {
-    if is(s, b"runs") {
-        layout::CORE_RUNS
-    } else if is(s, b"task") {
-        layout::CORE_TASK
-    } else if is(s, b"task-process") {
-        layout::CORE_TASK_PROCESS
-    } else if is(s, b"first") {
-        layout::CORE_FIRST
-    } else if is(s, b"last") {
-        layout::CORE_LAST
-    } else if is(s, b"size") {
-        layout::CORE_SIZE
-    } else if is(s, b"dispatch") {
-        layout::CORE_DISPATCH
-    } else if is(s, b"mark") {
-        layout::CORE_MARK
-    } else if is(s, b"first-head") {
-        layout::CORE_FIRST_HEAD
-    } else if is(s, b"last-head") {
-        layout::CORE_LAST_HEAD
-    } else if is(s, b"spare") {
-        layout::CORE_SPARE
-    } else {
-        NO_WORD
-    }
+    let w = named(s, b"runs", layout::CORE_RUNS, NO_WORD);
+    let w = named(s, b"task", layout::CORE_TASK, w);
+    let w = named(s, b"task-process", layout::CORE_TASK_PROCESS, w);
+    let w = named(s, b"first", layout::CORE_FIRST, w);
+    let w = named(s, b"last", layout::CORE_LAST, w);
+    let w = named(s, b"size", layout::CORE_SIZE, w);
+    let w = named(s, b"dispatch", layout::CORE_DISPATCH, w);
+    let w = named(s, b"mark", layout::CORE_MARK, w);
+    let w = named(s, b"first-head", layout::CORE_FIRST_HEAD, w);
+    let w = named(s, b"last-head", layout::CORE_LAST_HEAD, w);
+    named(s, b"spare", layout::CORE_SPARE, w)
 }
 
 fn process_word(s: &[u8]) -> usize {
-    if is(s, b"place") {
-        layout::PROCESS_PLACE
-    } else if is(s, b"data") {
-        layout::PROCESS_DATA
-    } else if is(s, b"enabling") {
-        layout::PROCESS_ENABLING
-    } else if is(s, b"not-ready") {
-        layout::PROCESS_NOT_READY
-    } else if is(s, b"waiting") {
-        layout::PROCESS_WAITING
-    } else if is(s, b"count") {
-        layout::PROCESS_COUNT
-    } else if is(s, b"next") {
-        layout::PROCESS_NEXT
-    } else if is(s, b"last") {
-        layout::PROCESS_LAST
-    } else if is(s, b"size") {
-        layout::PROCESS_SIZE
-    } else if is(s, b"next-head") {
-        layout::PROCESS_NEXT_HEAD
-    } else if is(s, b"spare") {
-        layout::PROCESS_SPARE
-    } else {
-        progress_word(s)
-    }
+    let w = named(s, b"place", layout::PROCESS_PLACE, progress_word(s));
+    let w = named(s, b"data", layout::PROCESS_DATA, w);
+    let w = named(s, b"enabling", layout::PROCESS_ENABLING, w);
+    let w = named(s, b"not-ready", layout::PROCESS_NOT_READY, w);
+    let w = named(s, b"waiting", layout::PROCESS_WAITING, w);
+    let w = named(s, b"count", layout::PROCESS_COUNT, w);
+    let w = named(s, b"next", layout::PROCESS_NEXT, w);
+    let w = named(s, b"last", layout::PROCESS_LAST, w);
+    let w = named(s, b"size", layout::PROCESS_SIZE, w);
+    let w = named(s, b"next-head", layout::PROCESS_NEXT_HEAD, w);
+    named(s, b"spare", layout::PROCESS_SPARE, w)
 }
 
 fn progress_word(s: &[u8]) -> usize {
-    if is(s, b"progress") {
-        layout::PROCESS_PROGRESS
-    } else if is(s, b"channel") {
-        layout::PROCESS_CHANNEL
-    } else if is(s, b"partner") {
-        layout::PROCESS_PARTNER
-    } else if is(s, b"guards") {
-        layout::PROCESS_GUARDS
-    } else if is(s, b"index") {
-        layout::PROCESS_INDEX
-    } else if is(s, b"first-ready") {
-        layout::PROCESS_FIRST_READY
-    } else if is(s, b"first-guard") {
-        layout::PROCESS_FIRST_GUARD
-    } else {
-        NO_WORD
-    }
+    let w = named(s, b"progress", layout::PROCESS_PROGRESS, NO_WORD);
+    let w = named(s, b"channel", layout::PROCESS_CHANNEL, w);
+    let w = named(s, b"partner", layout::PROCESS_PARTNER, w);
+    let w = named(s, b"guards", layout::PROCESS_GUARDS, w);
+    let w = named(s, b"index", layout::PROCESS_INDEX, w);
+    let w = named(s, b"first-ready", layout::PROCESS_FIRST_READY, w);
+    named(s, b"first-guard", layout::PROCESS_FIRST_GUARD, w)
 }
 
 fn channel_word(s: &[u8]) -> usize {
-    if is(s, b"writer") {
-        layout::CHANNEL_WRITER
-    } else if is(s, b"reader") {
-        layout::CHANNEL_READER
-    } else if is(s, b"holder") {
-        layout::CHANNEL_HOLDER
-    } else if is(s, b"transfers") {
-        layout::CHANNEL_TRANSFERS
-    } else if is(s, b"spare") {
-        layout::CHANNEL_SPARE
-    } else {
-        NO_WORD
-    }
+    let w = named(s, b"writer", layout::CHANNEL_WRITER, NO_WORD);
+    let w = named(s, b"reader", layout::CHANNEL_READER, w);
+    let w = named(s, b"holder", layout::CHANNEL_HOLDER, w);
+    let w = named(s, b"transfers", layout::CHANNEL_TRANSFERS, w);
+    named(s, b"spare", layout::CHANNEL_SPARE, w)
 }
 
 // The word of a record of a kind that a name says.
