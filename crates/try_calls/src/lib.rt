@@ -32,8 +32,8 @@ fn write_words(words: &[u32]) {
     }
 }
 
-// The call that an entry asks for; `words` holds its `count` numbers.
-fn call(
+// The request that an entry asks for; `words` holds its `count` numbers.
+fn request(
     s: &[u8],
     words: &[u32; 16384],
     count: usize,
@@ -41,10 +41,6 @@ fn call(
     answer: &mut [u32],
 ) -> u32 {
     let core = words[0];
-    if script::begins(s, b"set-up") {
-        let pairs = script::part(words, 3, count);
-        return fontarisca::fontarisca_set_up(core, words[1], words[2], pairs, table);
-    }
     if script::begins(s, b"send") {
         return fontarisca::fontarisca_send(table, answer, core, words[1], words[2]);
     }
@@ -57,10 +53,25 @@ fn call(
     if script::begins(s, b"yield") {
         return fontarisca::fontarisca_yield(table, answer, core);
     }
-    if script::begins(s, b"end") {
-        return fontarisca::fontarisca_end(table, answer, core);
+    fontarisca::fontarisca_end(table, answer, core)
+}
+
+// The call that it asks for.
+fn call(
+    s: &[u8],
+    words: &[u32; 16384],
+    count: usize,
+    table: &mut [u32],
+    answer: &mut [u32],
+) -> u32 {
+    if script::begins(s, b"set-up") {
+        let pairs = script::part(words, 3, count);
+        return fontarisca::fontarisca_set_up(words[0], words[1], words[2], pairs, table);
     }
-    fontarisca::fontarisca_step(table, answer, core)
+    if script::begins(s, b"step") {
+        return fontarisca::fontarisca_step(table, answer, words[0]);
+    }
+    request(s, words, count, table, answer)
 }
 
 // Lends what the entries before have said.
