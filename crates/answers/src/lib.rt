@@ -1,4 +1,6 @@
 // What a call answers, or why it is refused: the number returned and the answer words (docs/NUMBERS.md).
+#![tactic(auto)]
+
 ghost use Rattle.std.specs.Prelude.{◌≡◌, T};
 ghost use Rattle.rules.specs.Numbers.{TAKEN, MOVED, SLEPT, IDLE, GO, SENT, GOT, CHOSE, yes_with, lends, well_lent};
 ghost use Rattle.answers.specs.Four.{four, told};

@@ -1,5 +1,7 @@
 // The steps of a choice once its guards are enabled (document 01; 000, section 4.1), for the process p that runs on core k, and the kernel
 // task trigger.
+#![tactic(auto)]
+
 ghost use Rattle.std.specs.Prelude.{◌≡◌, eqb};
 ghost use Rattle.rules.specs.Lists.{if◌then◌else◌};
 ghost use Rattle.rules.specs.Numbers.{MOVED, yes_with};

@@ -1,4 +1,6 @@
 // A step: the next atomic step of a core, on a sound table (document 01).
+#![tactic(auto)]
+
 ghost use Rattle.std.specs.Prelude.{◌≤◌};
 ghost use Rattle.rules.specs.State.{wake_up};
 ghost use Rattle.rules.specs.Layout.{at_send_look};

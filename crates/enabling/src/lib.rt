@@ -1,4 +1,6 @@
 // The steps that enable the guards of a choice (document 01; 000, section 4.1), for the process p that runs on core k.
+#![tactic(auto)]
+
 ghost use Rattle.std.specs.Prelude.{◌≡◌};
 ghost use Rattle.rules.specs.Numbers.{MOVED, yes_with};
 ghost use Rattle.rules.specs.State.{enable_look, raise, place_name, ready_from_look, ready_from_place};

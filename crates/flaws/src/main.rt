@@ -4,6 +4,7 @@
 //     spread: KIND P to Q WORD FIRST step STEP      in the records P, P + 1, .. Q: FIRST, FIRST + STEP, ..
 //     NAME: WORDS             writes NAME, and whether the table with these words in it is sound
 // A name in brackets is a heading, written as it stands.
+#![tactic(auto)]
 
 fn write_spread(t: &mut [u32], first_address: u32, stride: u32, count: u32, first: u32, step: u32) {
     let mut address = first_address;

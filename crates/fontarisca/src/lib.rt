@@ -1,4 +1,6 @@
 // The exports, for the host written in C: set-up, the five requests and the step.
+#![tactic(auto)]
+
 ghost use Rattle.std.specs.Prelude.{◌≡◌, ◌<◌, T, get_or};
 ghost use Rattle.rules.specs.Numbers.{lends};
 ghost use Rattle.rules.specs.State.{users};

@@ -1,4 +1,6 @@
 // The count and the guards of the choice of process p, and going from one guard to the next (document 01).
+#![tactic(auto)]
+
 ghost use Rattle.std.specs.Prelude.{◌≡◌, ◌+◌, ◌≤◌, ◌<◌, length, get_or, set};
 ghost use Rattle.rules.specs.Numbers.{MOVED, yes_with};
 ghost use Rattle.rules.specs.Choice.{lowered, raised};

@@ -1,4 +1,5 @@
 // The layout of a table (docs/PACKING.md): the names and numbers of crates/rules/specs/Layout.antt, for the code.
+#![tactic(auto)]
 
 // How long the header is, and the records of a core, a process and a channel.
 pub const HEADER_SIZE: usize = 8;

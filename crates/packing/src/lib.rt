@@ -1,1 +1,2 @@
 // Laws of the packing: see proofs/. No function stands here.
+#![tactic(auto)]

@@ -1,4 +1,6 @@
 // What several steps share: a stage, a task, falling asleep, an outcome due.
+#![tactic(auto)]
+
 ghost use Rattle.std.specs.Prelude.{◌≡◌, ◌≤◌, get_or, set};
 ghost use Rattle.rules.specs.Numbers.{MOVED, SLEPT, yes_with};
 ghost use Rattle.rules.specs.Layout.{process_at, process_progress, process_data, at_send_wake};

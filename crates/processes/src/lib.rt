@@ -1,4 +1,6 @@
 // The part of the soundness check that looks at one process.
+#![tactic(auto)]
+
 ghost use Rattle.std.specs.Prelude.{◌≡◌, ◌≤◌, length};
 ghost use Rattle.rules.specs.Layout.{room, process_at, process_stride, process_next, links_size};
 ghost use Rattle.fitting.specs.Twin.{zeros, place_fits, meeting_fits, flags_fit, process_fits};

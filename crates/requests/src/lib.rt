@@ -1,4 +1,6 @@
 // The requests (document 01): what the running process of core k does next, on a sound table.
+#![tactic(auto)]
+
 ghost use Rattle.std.specs.Prelude.{◌≡◌, ◌≤◌, ◌<◌, [], length, get_or, take};
 ghost use Rattle.rules.specs.Lists.{member};
 ghost use Rattle.rules.specs.Requests.{request, asks, send, receive, choose, yield, end};

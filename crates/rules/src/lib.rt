@@ -1,1 +1,2 @@
 // The rules are definitions: see specs/. No function stands here.
+#![tactic(auto)]

@@ -1,4 +1,6 @@
 // The steps of a core with nothing running and no task (document 01; 000, section 2.1).
+#![tactic(auto)]
+
 ghost use Rattle.std.specs.Prelude.{◌≡◌, ◌*◌, min, eqb};
 ghost use Rattle.rules.specs.Lists.{bit};
 ghost use Rattle.rules.specs.State.{no_task};

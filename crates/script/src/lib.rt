@@ -7,6 +7,8 @@
 //     process 2 first-guard 1 2                    writes 1, and 2 into the word after
 //     process 2 place to count                     the words from one to another, to be shown
 //     process 1 to 9 next 2 step 1                 2, 3, .. in the records 1 to 9, where an entry is for that
+#![tactic(auto)]
+
 ghost use Rattle.std.specs.Prelude.{◌≡◌, ◌≤◌, length};
 ghost use Rattle.io.specs.Counts.{IsPrefixLen};
 

@@ -1,4 +1,6 @@
 // Set-up (document 01, "Set-up"): why it is refused, and the table that it builds.
+#![tactic(auto)]
+
 ghost use Rattle.std.specs.Prelude.{◌≡◌, [], ◌∷◌, ℕ, suc, ◌*◌, ◌≤◌, ◌<◌, length};
 ghost use Rattle.std.proofs.Math.Option.{none};
 ghost use Rattle.rules.specs.Lists.{within};

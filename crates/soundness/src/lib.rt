@@ -1,4 +1,6 @@
 // The soundness check (document 01, "The state"): "The check stops at the first flaw, however deep in a queue."
+#![tactic(auto)]
+
 ghost use Rattle.std.specs.Prelude.{◌≡◌, ◌≤◌, length};
 ghost use Rattle.rules.specs.Layout.{room};
 ghost use Rattle.rules.specs.Soundness.{sound};

@@ -1,4 +1,6 @@
 // The steps of send and receive (document 01; 000, figure 7), for the process p that runs on core k.
+#![tactic(auto)]
+
 ghost use Rattle.std.specs.Prelude.{◌≡◌, ◌≤◌, slice_index, slice_set};
 ghost use Rattle.rules.specs.Numbers.{MOVED, SLEPT, yes_with};
 ghost use Rattle.rules.specs.State.{look, park, copy, clear, wake};

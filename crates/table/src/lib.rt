@@ -1,4 +1,6 @@
 // The words of a lent table at fixed offsets (docs/PACKING.md): core k, process p and channel c, each with the number f of its word.
+#![tactic(auto)]
+
 ghost use Rattle.std.specs.Prelude.{◌≡◌, ◌+◌, ◌*◌, ◌-◌, ◌≤◌, ◌<◌, length, get_or, set, replicate, eqb};
 ghost use Rattle.std.proofs.lemmas.List.Edits.{sets};
 ghost use Rattle.rules.specs.Layout.{room, core_at, process_at, channel_at};

@@ -12,6 +12,7 @@
 //     step CORE
 //     write WORDS                            writes words of the table by hand (crates/script says how they are named)
 //     show WORD, show WORD to WORD           shows words of the table
+#![tactic(auto)]
 
 // How many words are lent.
 #[derive(Drop)]

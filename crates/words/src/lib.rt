@@ -1,5 +1,7 @@
 // Channel words by shift and mask (document 01, "The state"): "0 for nobody, otherwise twice the process number, with the lowest bit
 // set when that process is choosing".
+#![tactic(auto)]
+
 ghost use Rattle.std.specs.Prelude.{◌≡◌, ◌/◌, ◌%◌, ◌<◌, ◌^◌};
 ghost use Rattle.rules.specs.State.{plain, choosing};
 ghost use Rattle.rules.specs.Packing.{word_number, word_numbered};

@@ -108,6 +108,6 @@ own_numbers = record {
   end = λ t answer k. request_own t answer k end [] (λ s p. tt);
   step =
       λ t answer k.
-      says_own (answers_of the_step) (25 ∷ 26 ∷ 27 ∷ 29 ∷ 34 ∷ []) _ (call_cases t answer k the_step) (step_own (view t) (core_of (view t) k).work)
+      says_own (answers_of the_step) (25 ∷ 26 ∷ 27 ∷ 29 ∷ 34 ∷ []) (call t answer k the_step).number (call_cases t answer k the_step) (step_own (view t) (core_of (view t) k).work)
       (call_says t answer k the_step);
 }

@@ -137,7 +137,7 @@ module _ (s : State) (k p : ℕ) where
       by_word (λ word. Answers (name_placed p gs i word)) (λ _. tt) (λ q _. tt) (λ q _. tt) (get channel_word s (guard gs i)) s
   stage_says (ready_from_look gs i) = tt
   stage_says (ready_from_place gs i) = lowered_says s (get alternation s p).count _ (λ n _. tt)
-  stage_says (wait gs) = waits_says k p gs _ (get alternation s p).not_ready s
+  stage_says (wait gs) = waits_says k p gs (get alternation s p) (get alternation s p).not_ready s
   stage_says (disable gs i r) =
       by_word (λ word. Answers (disabled p gs i r word)) (λ _. tt) (λ q _. tt) (λ q. own_says (eqb q p) _ _ (λ _. tt) (λ _. tt))
       (get channel_word s (guard gs i)) s
