@@ -26,11 +26,11 @@ module _ {A : Type 0} where
 pub answered : (x a v : Bool) → x ≡ a → x ≡ v → a ≡ v
 answered x a v p q = sym p ∙ q
 
-pub refused : (x a : Bool) → x ≡ a → not x ≡ true → a ≡ false
-refused x a p q = sym p ∙ not-true x q
+pub refused : (x a : Bool) → x ≡ a → x ≡ false → a ≡ false
+refused x a p q = sym p ∙ q
 
-pub accepted : (x a : Bool) → x ≡ a → not x ≡ false → a ≡ true
-accepted x a p q = sym p ∙ not-false x q
+pub accepted : (x a : Bool) → x ≡ a → x ≡ true → a ≡ true
+accepted x a p q = sym p ∙ q
 
 -- a conjunction whose first part holds, and one whose first part doesn't
 pub both : (a b r : Bool) → a ≡ true → r ≡ b → r ≡ (a && b)

@@ -1,0 +1,36 @@
+-- Each test of the header in its order.
+use Rattle.std.proofs.Common.{le-leb}
+use borrow.Author.Tests.{lt-leb}
+use Rattle.rules.specs.Layout.{header_size, room}
+use Rattle.records.proofs.Tests.{refused, accepted, limits}
+use Rattle.records.proofs.header.header_fits.Goals as goal
+
+pub returns-then-t-lt-HEADER_SIZE : goal.returns-then-t-lt-HEADER_SIZE
+returns-then-t-lt-HEADER_SIZE c = rw (lt-leb header_size _ c.if-t-lt-HEADER_SIZE.true)
+
+pub returns-then-not-sizes : goal.returns-then-not-sizes
+returns-then-not-sizes c =
+    rw (
+      le-leb header_size _ c.if-t-lt-HEADER_SIZE.false,
+      ← c.word-k.ensures,
+      ← c.word-n.ensures,
+      ← c.word-m.ensures,
+      refused _ _ c.sizes.ensures c.if-not-sizes.true,
+    )
+
+pub room-requires : goal.room-requires
+room-requires c =
+    let l = limits _ _ _ (accepted _ _ c.sizes.ensures c.if-not-sizes.false) in
+    (l.cores, l.processes, l.channels)
+
+pub returns : goal.returns
+returns c =
+    rw (
+      le-leb header_size _ c.if-t-lt-HEADER_SIZE.false,
+      c.zeros.ensures,
+      c.room.ensures,
+      ← c.word-k.ensures,
+      ← c.word-n.ensures,
+      ← c.word-m.ensures,
+      accepted _ _ c.sizes.ensures c.if-not-sizes.false,
+    )
