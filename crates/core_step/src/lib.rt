@@ -29,8 +29,8 @@ fn stage_step(
     c: u32,
     q: u32,
 ) -> Reply
-    requires fact_1 { Reads t.old cores processes k p n c q }
-    requires fact_2 { at_send_look ≤ n }
+    requires reads { Reads t.old cores processes k p n c q }
+    requires a_stage { at_send_look ≤ n }
     ensures { Does (step k) t.old result t.new }
 {
     match n {

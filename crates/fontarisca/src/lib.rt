@@ -20,8 +20,8 @@ use requests::Request;
 
 // A word of a sound table's header: K, N or M.
 fn header_word(table: &[u32], f: usize) -> u32
-    requires fact_1 { T (sound table.now) }
-    requires fact_2 { f < header_size }
+    requires is_sound { T (sound table.now) }
+    requires of_header { f < header_size }
     ensures { result ≡ get_or table.now f 0 }
 {
     table[f]
@@ -46,8 +46,8 @@ fn refused_first(table: &[u32], answer: &[u32], core: u32) -> u32
 
 // The rule of a request, on a sound table with that core; the guards of a choice go beside it.
 fn request(table: &mut [u32], core: u32, r: Request, guards: &[u32]) -> Reply
-    requires fact_1 { T (sound table.old) }
-    requires fact_2 { core < k_of table.old }
+    requires is_sound { T (sound table.old) }
+    requires has_core { core < k_of table.old }
     ensures { Does (request (users (view table.old)) (asked r guards.now) core) table.old result table.new }
 {
     let cores = header_word(table, layout::HEADER_CORES) as usize;

@@ -34,8 +34,8 @@ pub fn has_task(t: &mut [u32], k: usize, task: u32, q: u32)
 
 // Process p of core k falls asleep, and the core has a task.
 pub fn falls_asleep(t: &mut [u32], cores: usize, k: usize, p: u32, task: u32, q: u32) -> Reply
-    requires fact_1 { HasProcess t.old cores p }
-    requires fact_2 { HasCore t.old k }
+    requires process { HasProcess t.old cores p }
+    requires core { HasCore t.old k }
     ensures table { t.new ≡ asleep_table t.old cores k p task q }
     ensures reply { result ≡ four (yes_with (SLEPT p)) }
 {

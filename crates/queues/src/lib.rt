@@ -17,9 +17,9 @@ use layout::{
 
 // Process p is linked behind the last one b by the word g of b; where there is none it is the first, the word f of core k.
 fn link_end(t: &mut [u32], cores: usize, k: usize, f: usize, g: usize, b: u32, p: u32)
-    requires fact_1 { CanLink t.old cores k b }
-    requires fact_2 { f < core_stride }
-    requires fact_3 { g < process_stride }
+    requires linkable { CanLink t.old cores k b }
+    requires of_core { f < core_stride }
+    requires of_process { g < process_stride }
     ensures { t.new ≡ link_end f g b p t.old cores k }
 {
     if b == 0 {

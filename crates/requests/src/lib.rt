@@ -49,8 +49,8 @@ fn end_refusal(
     f: usize,
     c: u32,
 ) -> u32
-    requires fact_1 { f < channel_stride }
-    requires fact_2 { room cores processes channels ≤ length t.now }
+    requires of_channel { f < channel_stride }
+    requires lies_in { room cores processes channels ≤ length t.now }
     ensures { result ≡ end_refusal t.now cores processes channels p f c }
 {
     if c == 0 {
@@ -173,8 +173,8 @@ fn begin_choice(t: &mut [u32], cores: usize, p: u32)
 
 // Process p is at the enabling look of the first of its guards.
 fn begin_enabling(t: &mut [u32], cores: usize, p: u32, guards: &[u32])
-    requires fact_1 { HasProcess t.old cores p }
-    requires fact_2 { length guards.now ≤ guard_places }
+    requires process { HasProcess t.old cores p }
+    requires few_guards { length guards.now ≤ guard_places }
     ensures { t.new ≡ enabling_table t.old cores p guards.now }
 {
     let size = guards.len() as u32;
@@ -249,8 +249,8 @@ pub fn make(
     r: Request,
     guards: &[u32],
 ) -> Reply
-    requires fact_1 { Card t.old cores processes k }
-    requires fact_2 { channels ≡ m_of t.old }
+    requires card { Card t.old cores processes k }
+    requires wired { channels ≡ m_of t.old }
     ensures { Does (request (users (view t.old)) (asked r guards.now) k) t.old result t.new }
 {
     let p = requester(t, cores, k);

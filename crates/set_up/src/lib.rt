@@ -108,9 +108,9 @@ fn fill_process(t: &mut [u32], k: u32, p: u32)
 
 // The n processes.
 fn fill_processes(t: &mut [u32], k: u32, n: u32)
-    requires fact_1 { channels_at k n ≤ length t.old }
-    requires fact_2 { k ≤ 8 }
-    requires fact_3 { n ≤ 256 }
+    requires lies_in { channels_at k n ≤ length t.old }
+    requires few_cores { k ≤ 8 }
+    requires few_processes { n ≤ 256 }
     ensures { t.new ≡ in_turn (process_filled k) 1 n t.old }
 {
     let mut p = 1;
@@ -122,8 +122,8 @@ fn fill_processes(t: &mut [u32], k: u32, n: u32)
 
 // Channel c, with its writer and its reader.
 fn fill_channel(t: &mut [u32], k: u32, n: u32, pairs: &[u32], c: u32)
-    requires fact_1 { HasChannel t.old k n c }
-    requires fact_2 { 2 * c ≤ length pairs.now }
+    requires channel { HasChannel t.old k n c }
+    requires pairs_lie_in { 2 * c ≤ length pairs.now }
     ensures { t.new ≡ channel_filled k n pairs.now c t.old }
 {
     let cores = k as usize;
@@ -137,9 +137,9 @@ fn fill_channel(t: &mut [u32], k: u32, n: u32, pairs: &[u32], c: u32)
 
 // The m channels.
 fn fill_channels(t: &mut [u32], k: u32, n: u32, m: u32, pairs: &[u32])
-    requires fact_1 { room k n m ≤ length t.old }
-    requires fact_2 { 2 * m ≤ length pairs.now }
-    requires fact_3 { m ≤ 256 }
+    requires lies_in { room k n m ≤ length t.old }
+    requires pairs_lie_in { 2 * m ≤ length pairs.now }
+    requires few_channels { m ≤ 256 }
     ensures { t.new ≡ in_turn (channel_filled k n pairs.now) 1 m t.old }
 {
     let mut c = 1;
@@ -163,9 +163,9 @@ fn fill_header(t: &mut [u32], k: u32, n: u32, m: u32)
 
 // Process p is alone in a batch on core (p - 1) mod k, the last one there.
 fn stand_alone(t: &mut [u32], k: u32, p: u32)
-    requires fact_1 { CanStandAlone t.old k p }
-    requires fact_2 { 1 ≤ k }
-    requires fact_3 { 1 ≤ p }
+    requires can_stand { CanStandAlone t.old k p }
+    requires some_core { 1 ≤ k }
+    requires from_one { 1 ≤ p }
     ensures { t.new ≡ alone k p t.old }
 {
     let cores = k as usize;
@@ -176,9 +176,9 @@ fn stand_alone(t: &mut [u32], k: u32, p: u32)
 
 // The n processes stand in batches, in order.
 fn fill_queues(t: &mut [u32], k: u32, n: u32)
-    requires fact_1 { ((i : ℕ) → i < n → CanStandAlone (in_batches k i t.old) k (suc i)) }
-    requires fact_2 { 1 ≤ k }
-    requires fact_3 { n ≤ 256 }
+    requires can_stand { ((i : ℕ) → i < n → CanStandAlone (in_batches k i t.old) k (suc i)) }
+    requires some_core { 1 ≤ k }
+    requires few_processes { n ≤ 256 }
     ensures { t.new ≡ in_batches k n t.old }
 {
     let mut p = 1;
@@ -201,8 +201,8 @@ fn fill(k: u32, n: u32, m: u32, pairs: &[u32], t: &mut [u32])
 
 // Set-up: BUILT, 0, and the table built; or why it is refused, and nothing written.
 pub fn build(k: u32, n: u32, m: u32, pairs: &[u32], t: &mut [u32]) -> u32
-    ensures value { result ≡ (set_up_call k n m pairs.now t.old).number }
-    ensures t_after { t.new ≡ (set_up_call k n m pairs.now t.old).table }
+    ensures number { result ≡ (set_up_call k n m pairs.now t.old).number }
+    ensures table { t.new ≡ (set_up_call k n m pairs.now t.old).table }
 {
     let why = refusal(k, n, m, pairs, t.len());
     if why != 0 {

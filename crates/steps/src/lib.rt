@@ -39,8 +39,8 @@ fn set_word(t: &mut [u32], cores: usize, processes: usize, c: u32, v: u32)
 
 // The request goes on at another stage.
 fn goes_on(t: &mut [u32], cores: usize, p: u32, way: Way, n: u32) -> Reply
-    requires fact_1 { HasProcess t.old cores p }
-    requires fact_2 { n ≤ at_send_wake }
+    requires process { HasProcess t.old cores p }
+    requires a_stage { n ≤ at_send_wake }
     ensures table { t.new ≡ slice_set t.old (process_at cores p process_progress) (of_way (which way) n) }
     ensures reply { result ≡ four (yes_with MOVED) }
 {
@@ -91,8 +91,8 @@ fn due_number(way: Way) -> u32
 
 // Process p falls asleep with its outcome due, and the core has a task, of process q.
 fn sleeps(t: &mut [u32], cores: usize, k: usize, p: u32, way: Way, task: u32, q: u32) -> Reply
-    requires fact_1 { HasProcess t.old cores p }
-    requires fact_2 { HasCore t.old k }
+    requires process { HasProcess t.old cores p }
+    requires core { HasCore t.old k }
     ensures table { t.new ≡ asleep_table (slice_set t.old (process_at cores p process_progress) (due_of (which way))) cores k p task q }
     ensures reply { result ≡ four (yes_with (SLEPT p)) }
 {
@@ -127,8 +127,8 @@ pub fn park_step(
 
 // A sender writes its data word into the partner's, a receiver takes the partner's into its own.
 fn copy_word(t: &mut [u32], cores: usize, p: u32, way: Way, q: u32)
-    requires fact_1 { HasProcess t.old cores p }
-    requires fact_2 { HasProcess t.old cores q }
+    requires process { HasProcess t.old cores p }
+    requires partner { HasProcess t.old cores q }
     ensures { t.new ≡ copied (which way) t.old cores p q }
 {
     match way {
