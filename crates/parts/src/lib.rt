@@ -63,7 +63,7 @@ pub fn set_due(t: &mut [u32], cores: usize, p: u32, number: u32, c: u32)
 }
 
 // The end of a channel that a request is made at.
-#[derive(Drop)]
+#[derive(Clone, Copy)]
 pub enum Way {
     Sending,
     Receiving,
