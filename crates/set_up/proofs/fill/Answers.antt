@@ -1,0 +1,19 @@
+-- The parts together are the packing.
+use Rattle.std.proofs.Common.{◌≡◌, ◌∙◌, arith}
+use Rattle.set_up.specs.Filled.{in_batches}
+use Rattle.set_up.proofs.Filling.{written, queues_fit, set_up_packs}
+use Rattle.set_up.proofs.fill.Goals as goal
+
+pub fill_queues-requires-clause-can_stand : goal.fill_queues-requires-clause-can_stand
+fill_queues-requires-clause-can_stand c =
+    let args = c.args in
+    rw (c.fill_channels.ensures, c.fill_processes.ensures, c.fill_header.ensures)
+    (queues_fit args.k args.n args.m args.pairs.now args.t.now c.requires)
+
+pub returns : goal.returns
+returns c =
+    let args = c.args in
+    let e : c.fill_queues.new.t
+    ≡ in_batches args.k args.n (written args.k args.n args.m args.pairs.now args.t.now c.requires) =
+    rw (c.fill_queues.ensures, c.fill_channels.ensures, c.fill_processes.ensures, c.fill_header.ensures) in
+    e ∙ set_up_packs args.k args.n args.m args.pairs.now args.t.now c.requires
