@@ -6,7 +6,7 @@ use mathlib.Core.List.{List, [], ◌∷◌}
 use mathlib.Core.Option.{Option}
 use native.Mathlib.Omega.{arith}
 use lib.Dec.{T, eqb, lit<}
-use lib.ListN.{length, set}
+use lib.ListN.{length}
 use borrow.Author.Tests.{eq-eqb, ne_eqb}
 use Rattle.rules.specs.Lists.{if◌then◌else◌, bit, within, all, distinct}
 use Rattle.rules.specs.Numbers.{Answer, MOVED, SLEPT, CHOSE, FAULT, yes_with, no_because}
