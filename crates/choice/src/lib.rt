@@ -156,8 +156,8 @@ fn next_task(t: &mut [u32], k: usize, task: u32, q: u32) -> Reply
 // Trigger q, a kernel task: clear q's not-ready and waiting, count - 1. Where waiting had been set or the new count is 0, the task is
 // then to wake q; otherwise it is over.
 pub fn trigger_step(t: &mut [u32], cores: usize, processes: usize, k: usize, q: u32) -> Reply
-    requires fact_1 { Card t.old cores processes k }
-    requires fact_2 { (core_of (view t.old) k).work ≡ free (trigger q) }
+    requires card { Card t.old cores processes k }
+    requires task { (core_of (view t.old) k).work ≡ free (trigger q) }
     ensures { Does (trigger_step k q) t.old result t.new }
 {
     let count = table::process_word(t, cores, q, layout::PROCESS_COUNT);

@@ -8,46 +8,46 @@ use Rattle.choice.proofs.trigger_step.Goals as goal
 pub process_word-count-requires : goal.process_word-count-requires
 process_word-count-requires c =
     let pre = c.requires in
-    let h = trigger_process pre.fact_1 pre.fact_2 in
+    let h = trigger_process pre.card pre.task in
     omega arith
 
 pub process_word-waiting-requires : goal.process_word-waiting-requires
 process_word-waiting-requires c =
     let pre = c.requires in
-    let h = trigger_process pre.fact_1 pre.fact_2 in
+    let h = trigger_process pre.card pre.task in
     omega arith
 
 pub set_triggered-requires : goal.set_triggered-requires
 set_triggered-requires c =
     let pre = c.requires in
-    trigger_process pre.fact_1 pre.fact_2
+    trigger_process pre.card pre.task
 
 pub next_task-requires : goal.next_task-requires
 next_task-requires c =
-    let h = card_core _ _ _ _ c.requires.fact_1 in
+    let h = card_core _ _ _ _ c.requires.card in
     omega arith
 
 pub next_task-requires-then-n-eq0 : goal.next_task-requires-then-n-eq0
 next_task-requires-then-n-eq0 c =
-    let h = card_core _ _ _ _ c.requires.fact_1 in
+    let h = card_core _ _ _ _ c.requires.card in
     omega arith
 
 pub next_task-requires-else-n-eq0 : goal.next_task-requires-else-n-eq0
 next_task-requires-else-n-eq0 c =
-    let h = card_core _ _ _ _ c.requires.fact_1 in
+    let h = card_core _ _ _ _ c.requires.card in
     omega arith
 
 pub returns-in-Fault : goal.returns-in-Fault
 returns-in-Fault c =
     let pre = c.requires in
-    trigger_fault pre.fact_1 pre.fact_2
+    trigger_fault pre.card pre.task
     (now_changes lowered c.in-Fault.is c.process_word-count.ensures c.lowered.ensures)
     c.refused.ensures (cc)
 
 pub returns-then-waiting-eq1 : goal.returns-then-waiting-eq1
 returns-then-waiting-eq1 c =
     let pre = c.requires in
-    trigger_waited pre.fact_1 pre.fact_2 c.process_word-waiting.ensures
+    trigger_waited pre.card pre.task c.process_word-waiting.ensures
     (now_changes lowered c.in-To.is c.process_word-count.ensures c.lowered.ensures)
     c.set_triggered.ensures c.next_task.ensures.reply
     c.if-waiting-eq1.true c.next_task.ensures.table
@@ -55,7 +55,7 @@ returns-then-waiting-eq1 c =
 pub returns-then-n-eq0 : goal.returns-then-n-eq0
 returns-then-n-eq0 c =
     let pre = c.requires in
-    trigger_last pre.fact_1 pre.fact_2 c.process_word-waiting.ensures
+    trigger_last pre.card pre.task c.process_word-waiting.ensures
     (now_changes lowered c.in-To.is c.process_word-count.ensures c.lowered.ensures)
     c.set_triggered.ensures c.next_task-then-n-eq0.ensures.reply
     c.if-n-eq0.true c.next_task-then-n-eq0.ensures.table
@@ -63,7 +63,7 @@ returns-then-n-eq0 c =
 pub returns-else-n-eq0 : goal.returns-else-n-eq0
 returns-else-n-eq0 c =
     let pre = c.requires in
-    trigger_over pre.fact_1 pre.fact_2 c.process_word-waiting.ensures
+    trigger_over pre.card pre.task c.process_word-waiting.ensures
     (now_changes lowered c.in-To.is c.process_word-count.ensures c.lowered.ensures)
     c.set_triggered.ensures c.next_task-else-n-eq0.ensures.reply
     c.if-waiting-eq1.false c.if-n-eq0.false c.next_task-else-n-eq0.ensures.table

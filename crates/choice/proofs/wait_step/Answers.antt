@@ -31,7 +31,7 @@ falls_asleep-requires c =
     let at = c.requires in
     let process = at_process at in
     let core = at_core at in
-    record { fact_1 = omega arith; fact_2 = omega arith }
+    record { process = omega arith; core = omega arith }
 
 pub returns-then-process_word-eq0 : goal.returns-then-process_word-eq0
 returns-then-process_word-eq0 c =
