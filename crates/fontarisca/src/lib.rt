@@ -1,4 +1,4 @@
-// The exports, for the host written in C: set-up, the five requests and the step.
+// The calls: set-up, the five requests and the step. crates/fontarisca_c exports them to the host written in C.
 #![tactic(auto)]
 
 ghost use Rattle.std.specs.Prelude.{◌≡◌, ◌<◌, T, get_or};
@@ -81,16 +81,14 @@ fn step(table: &mut [u32], core: u32) -> Reply
 }
 
 // Builds a table of k cores, n processes and m channels with these (writer, reader) pairs, whatever it held.
-#[unsafe(no_mangle)]
-pub extern "C" fn fontarisca_set_up(k: u32, n: u32, m: u32, pairs: &[u32], table: &mut [u32]) -> u32
+pub fn fontarisca_set_up(k: u32, n: u32, m: u32, pairs: &[u32], table: &mut [u32]) -> u32
     ensures { MeetsBuilt (set_up_call k n m pairs.now table.old) (builds result table.new) }
 {
     set_up::build(k, n, m, pairs, table)
 }
 
 // The running process of the core sends the value on the channel, of which it is the writer.
-#[unsafe(no_mangle)]
-pub extern "C" fn fontarisca_send(
+pub fn fontarisca_send(
     table: &mut [u32],
     answer: &mut [u32],
     core: u32,
@@ -103,8 +101,7 @@ pub extern "C" fn fontarisca_send(
 }
 
 // It receives on the channel, of which it is the reader.
-#[unsafe(no_mangle)]
-pub extern "C" fn fontarisca_receive(
+pub fn fontarisca_receive(
     table: &mut [u32],
     answer: &mut [u32],
     core: u32,
@@ -116,8 +113,7 @@ pub extern "C" fn fontarisca_receive(
 }
 
 // It chooses over these channels, of which it is the reader.
-#[unsafe(no_mangle)]
-pub extern "C" fn fontarisca_choose(
+pub fn fontarisca_choose(
     table: &mut [u32],
     answer: &mut [u32],
     core: u32,
@@ -129,24 +125,21 @@ pub extern "C" fn fontarisca_choose(
 }
 
 // It goes to the end of the active queue.
-#[unsafe(no_mangle)]
-pub extern "C" fn fontarisca_yield(table: &mut [u32], answer: &mut [u32], core: u32) -> u32
+pub fn fontarisca_yield(table: &mut [u32], answer: &mut [u32], core: u32) -> u32
     ensures { Meets (yield_call table.old (lends answer.old) core) (gives result (lends answer.new) table.new) }
 {
     make_request(table, answer, core, Request::Yield, &[])
 }
 
 // It ends.
-#[unsafe(no_mangle)]
-pub extern "C" fn fontarisca_end(table: &mut [u32], answer: &mut [u32], core: u32) -> u32
+pub fn fontarisca_end(table: &mut [u32], answer: &mut [u32], core: u32) -> u32
     ensures { Meets (end_call table.old (lends answer.old) core) (gives result (lends answer.new) table.new) }
 {
     make_request(table, answer, core, Request::End, &[])
 }
 
 // The next atomic step of the core.
-#[unsafe(no_mangle)]
-pub extern "C" fn fontarisca_step(table: &mut [u32], answer: &mut [u32], core: u32) -> u32
+pub fn fontarisca_step(table: &mut [u32], answer: &mut [u32], core: u32) -> u32
     ensures { Meets (step_call table.old (lends answer.old) core) (gives result (lends answer.new) table.new) }
 {
     let why = refused_first(table, answer, core);
