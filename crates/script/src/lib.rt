@@ -180,7 +180,7 @@ pub fn length(s: &[u8]) -> usize {
         return 0;
     }
     let words = room(n[0], n[1], n[2]);
-    if find(s, 0, b'_', b'_') == s.len() {
+    if find(s, 0, b'-', b'-') == s.len() {
         return more(words, n[3]);
     }
     less(words, n[3])
