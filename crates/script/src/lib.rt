@@ -349,7 +349,7 @@ fn value(s: &[u8]) -> u32 {
 }
 
 // Where a list of words has got to.
-#[derive(Drop)]
+#[derive(Clone, Copy)]
 pub struct Cursor {
     // the kind of record, or 0 where the next one is to be named; whether its number was read; where it begins
     kind: u32,
