@@ -15,7 +15,7 @@
 #![tactic(auto)]
 
 // How many words are lent.
-#[derive(Drop)]
+#[derive(Clone, Copy)]
 struct Lent {
     table: usize,
     answer: usize,
