@@ -39,7 +39,7 @@ pub const FAULT: u32 = 34;
 pub const ANSWER_SIZE: usize = 3;
 
 // The number, and the words process, channel, value.
-#[derive(Drop)]
+#[derive(Clone, Copy)]
 pub struct Reply {
     pub number: u32,
     pub process: u32,

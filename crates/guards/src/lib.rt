@@ -14,7 +14,7 @@ ghost use Rattle.guards.specs.Read.{stage_table, next_table};
 use answers::Reply;
 
 // What becomes of a count: a fault, or another count.
-#[derive(Drop)]
+#[derive(Clone, Copy)]
 pub enum Change {
     Fault,
     To(u32),

@@ -14,7 +14,7 @@ ghost use Rattle.requests.specs.Asked.{asked, Idle, HasRunning, asker, end_refus
 use answers::Reply;
 
 // What is asked; the guards of a choice go beside it, since no enum can hold a slice.
-#[derive(Drop)]
+#[derive(Clone, Copy)]
 pub enum Request {
     Send(u32, u32),
     Receive(u32),

@@ -8,7 +8,7 @@ ghost use Rattle.rules.specs.Packing.{word_number, word_numbered};
 ghost use Rattle.words.specs.Meaning.{meaning};
 
 // Who stands in a channel word.
-#[derive(Drop)]
+#[derive(Clone, Copy)]
 pub enum Holder {
     Nobody,
     Plain(u32),
