@@ -4,7 +4,7 @@ use mathlib.Core.Path.{◌≡◌, refl, sym, ◌∙◌}
 use mathlib.Core.Bool.{Bool, true, false, not, ◌&&◌}
 use mathlib.Core.Logic.{◌⊎◌, inl, inr}
 use lib.Dec.{leb}
-use borrow.Author.Tests.{eq-eqb, ne_eqb, leb-true, not-true, not-false}
+use borrow.Author.Tests.{eq-eqb, ne_eqb, leb-true}
 use Rattle.rules.specs.SetUp.{sizes}
 use Rattle.rules.specs.Lists.{if◌then◌else◌, within}
 
@@ -25,12 +25,6 @@ module _ {A : Type 0} where
 -- a test that a call answered, and the branch on its answer
 pub answered : (x a v : Bool) → x ≡ a → x ≡ v → a ≡ v
 answered x a v p q = sym p ∙ q
-
-pub refused : (x a : Bool) → x ≡ a → x ≡ false → a ≡ false
-refused x a p q = sym p ∙ q
-
-pub accepted : (x a : Bool) → x ≡ a → x ≡ true → a ≡ true
-accepted x a p q = sym p ∙ q
 
 -- a conjunction whose first part holds, and one whose first part doesn't
 pub both : (a b r : Bool) → a ≡ true → r ≡ b → r ≡ (a && b)
@@ -87,4 +81,4 @@ limits k n m e =
     let d = within_true 0 256 m (second_true (within 1 8 k && within 1 256 n) _ e) in
     record { some_core = a.0; cores = a.1; some_process = b.0; processes = b.1; channels = d.1 }
 
-pub ruleset branches = (by_then, by_else, eq-eqb, ne_eqb, same, answered, refused, accepted, both, not_first, parts)
+pub ruleset branches = (by_then, by_else, eq-eqb, ne_eqb, same, answered, both, not_first, parts)

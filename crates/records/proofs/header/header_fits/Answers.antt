@@ -1,8 +1,8 @@
 -- Each test of the header in its order.
 use Rattle.std.proofs.Common.{le-leb}
 use borrow.Author.Tests.{lt-leb}
-use Rattle.rules.specs.Layout.{header_size, room}
-use Rattle.records.proofs.Tests.{refused, accepted, limits}
+use Rattle.rules.specs.Layout.{header_size}
+use Rattle.records.proofs.Tests.{answered, limits}
 use Rattle.records.proofs.header.header_fits.Goals as goal
 
 pub returns-then-t-lt-HEADER_SIZE : goal.returns-then-t-lt-HEADER_SIZE
@@ -15,12 +15,12 @@ returns-then-not-sizes c =
       ← c.word-k.ensures,
       ← c.word-n.ensures,
       ← c.word-m.ensures,
-      refused _ _ c.sizes.ensures c.if-not-sizes.true,
+      answered _ _ _ c.sizes.ensures c.if-not-sizes.true,
     )
 
 pub room-requires : goal.room-requires
 room-requires c =
-    let l = limits _ _ _ (accepted _ _ c.sizes.ensures c.if-not-sizes.false) in
+    let l = limits _ _ _ (answered _ _ _ c.sizes.ensures c.if-not-sizes.false) in
     (l.cores, l.processes, l.channels)
 
 pub returns : goal.returns
@@ -32,5 +32,5 @@ returns c =
       ← c.word-k.ensures,
       ← c.word-n.ensures,
       ← c.word-m.ensures,
-      accepted _ _ c.sizes.ensures c.if-not-sizes.false,
+      answered _ _ _ c.sizes.ensures c.if-not-sizes.false,
     )
