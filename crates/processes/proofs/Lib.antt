@@ -1,3 +1,2 @@
 mod ByNumber
 mod Guards
-mod Fails
