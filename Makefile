@@ -33,8 +33,10 @@ sanitized: target/sanitized/ring target/sanitized/collectors target/sanitized/nu
 header: ## compile the header as C and as C++, and compare its numbers with docs/NUMBERS.md and its layout with the rules
 	host/test-header
 
-$(LIBRARY): $(shell find crates -name '*.rt' -o -name '*.antt') crates.txt
-	rt staticlib fontarisca
+$(LIBRARY): $(shell find crates -path '*/out' -prune -o \( -name '*.rt' -o -name '*.antt' \) -print) crates.txt
+	rt lib fontarisca_c
+	@mkdir -p $(@D)
+	cp crates/fontarisca_c/out/libfontarisca_c.a $@
 
 machine:
 	@host/machine

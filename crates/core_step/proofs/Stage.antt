@@ -32,7 +32,7 @@ NoStage nothing = Unit {0}
 NoStage (doing x) = ⊥
 NoStage (due o) = Unit {0}
 
--- the numbers from due-go on are of no stage
+-- the numbers from due_go on are of no stage
 no_stage : (t : List ℕ) (cores p n c q : ℕ) → due_go ≤ n → NoStage (progress_at t cores p n c q)
 unfolding progress_numbered
 no_stage t cores p n c q h = by_number (ℕ_discrete n due_go) (ℕ_discrete n due_sent) (ℕ_discrete n due_got) (ℕ_discrete n due_chose)

@@ -39,7 +39,7 @@ does_work t k w e r u h = subst (λ (x : Work). Comes (run (work_step k (core_of
 abbrev task_numbered : ℕ → ℕ → Task
 task_numbered task q = get_or (no_task ∷ trigger q ∷ wake_up q ∷ []) task no_task
 
--- the number of a task is at most task-wake
+-- the number of a task is at most task_wake
 task_number : (w : Work) → get_or (work_words w) core_task 0 ≤ task_wake
 task_number (runs p) = lit≤ tt
 task_number (free no_task) = lit≤ tt

@@ -26,7 +26,7 @@ use Rattle.rules.specs.Shortcuts.{Shortcuts}
 abbrev pub row : Answer → List ℕ
 row a = (reply a).number ∷ (written a).words
 
--- `computed`, numbers-table: 01's table, row by row.
+-- `computed`, numbers_table: 01's table, row by row.
 pub record NumbersTable : Type 0 where
   pub answers : (p c v : ℕ)
       → map row (BUILT ∷ TAKEN p c ∷ MOVED ∷ SLEPT p ∷ IDLE ∷ GO p ∷ SENT p c ∷ GOT p c v ∷ CHOSE p c ∷ [])
@@ -77,7 +77,7 @@ pub record OwnNumbers : Type 0 where
   pub end : (t : List ℕ) (answer : Lent) (k : ℕ) → T (member (end_call t answer k).number end_numbers)
   pub step : (t : List ℕ) (answer : Lent) (k : ℕ) → T (member (step_call t answer k).number step_numbers)
 
--- `computed`, reached-numbers: and each of them in some case.
+-- `computed`, reached_numbers: and each of them in some case.
 pub record ReachedNumbers : Type 0 where
   pub set_up : set_up_results ≡ set_up_numbers
   pub send : send_results ≡ send_numbers

@@ -37,7 +37,7 @@ channel_at k n c f = channels_at k n + channel_stride * (c - 1) + f
 abbrev pub room : ℕ → ℕ → ℕ → ℕ
 room k n m = channels_at k n + channel_stride * m
 
--- The header's words: K, N, M. Those from header-spare on are 0.
+-- The header's words: K, N, M. Those from header_spare on are 0.
 
 abbrev pub header_cores : ℕ
 header_cores = 0
@@ -52,7 +52,7 @@ abbrev pub header_spare : ℕ
 header_spare = 3
 
 -- A core's words: the running process; the task and its process; the active queue's first, last and size; dispatch count; mark; the heads
--- of the first and of the last batch. Those from core-spare on are 0.
+-- of the first and of the last batch. Those from core_spare on are 0.
 
 abbrev pub core_runs : ℕ
 core_runs = 0
@@ -89,7 +89,7 @@ core_spare = 10
 
 -- A process's words: place; data; alternation state; progress (its number, channel, partner, number of guards, guard index, first ready
 -- guard, and the guards); links (next, and of a batch's head the batch's last, its size and the next head). Those from
--- process-spare on are 0; there are none.
+-- process_spare on are 0; there are none.
 
 abbrev pub process_place : ℕ
 process_place = 0
