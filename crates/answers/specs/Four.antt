@@ -1,6 +1,5 @@
 -- The code's record of a number and its words, in the rules' terms.
-use Rattle.std.specs.Prelude.{[], ◌∷◌, ltb}
-use Rattle.rules.specs.Lists.{if◌then◌else◌}
+use Rattle.std.specs.Prelude.{[], ◌∷◌, ltb, if◌then◌else◌}
 use Rattle.rules.specs.Numbers.{Said, yes_with, no_because, reply, refusal_number, Lent, lends}
 use Rattle.answers.specs.declared.Reply.{Reply}
 

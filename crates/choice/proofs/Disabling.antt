@@ -1,4 +1,5 @@
 -- What the wait and the steps of disabling come to: by a word that the code reads, the words that it writes then.
+use Rattle.std.specs.Prelude.{if◌then◌else◌}
 use Prim.Native.Nat.{ℕ, zero, suc, ◌+◌}
 use mathlib.Core.Path.{◌≡◌, refl, sym, ap, ◌∙◌, subst}
 use mathlib.Core.Bool.{Bool, true, false}
@@ -9,7 +10,7 @@ use lib.Dec.{eqb, lit<}
 use lib.ListN.{get_or, set}
 use lib.Seq.{set-set, get_or-set_same}
 use borrow.Author.Tests.{eq-eqb, ne_eqb}
-use Rattle.rules.specs.Lists.{if◌then◌else◌, bit}
+use Rattle.rules.specs.Lists.{bit}
 use Rattle.rules.specs.Numbers.{Answer, MOVED, SLEPT, FAULT, yes_with, no_because}
 use Rattle.rules.specs.State.{wait, disable, lower, finish, Progress, doing, Alternation, Process, no_task, ChannelWord, nobody, State}
 use Rattle.rules.specs.Items.{process_of, no_process, put, alternation, progress}

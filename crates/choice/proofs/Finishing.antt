@@ -1,4 +1,5 @@
 -- What the end of a choice and the kernel task trigger come to: by a word that the code reads, the words that it writes then.
+use Rattle.std.specs.Prelude.{if◌then◌else◌}
 use Prim.Native.Nat.{ℕ, suc, ◌-◌, ◌≤◌, ◌<◌}
 use mathlib.Core.Path.{◌≡◌, refl, sym, ap, ◌∙◌, subst}
 use mathlib.Core.Bool.{Bool, true, false, ◌||◌}
@@ -8,7 +9,7 @@ use native.Mathlib.Omega.{arith}
 use lib.Dec.{T, eqb, lit<}
 use lib.ListN.{length}
 use borrow.Author.Tests.{eq-eqb, ne_eqb}
-use Rattle.rules.specs.Lists.{if◌then◌else◌, bit, within, all, distinct}
+use Rattle.rules.specs.Lists.{bit, within, all, distinct}
 use Rattle.rules.specs.Numbers.{Answer, MOVED, SLEPT, CHOSE, FAULT, yes_with, no_because}
 use Rattle.rules.specs.State.{receiving, finish, chose, due, Alternation, no_task, trigger, wake_up, free, State, wiring}
 use Rattle.rules.specs.Items.{core_of, process_of, put, alternation, progress}

@@ -2,8 +2,7 @@
 // task trigger.
 #![tactic(auto)]
 
-ghost use Rattle.std.specs.Prelude.{◌≡◌, eqb};
-ghost use Rattle.rules.specs.Lists.{if◌then◌else◌};
+ghost use Rattle.std.specs.Prelude.{◌≡◌, eqb, if◌then◌else◌};
 ghost use Rattle.rules.specs.Numbers.{MOVED, yes_with};
 ghost use Rattle.rules.specs.State.{wait, disable, lower, finish};
 ghost use Rattle.rules.specs.State.{trigger, free};

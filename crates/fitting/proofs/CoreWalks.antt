@@ -1,4 +1,5 @@
 -- The walks over a core and over all cores are exact: what they look for, for the cores that are read out of the table.
+use Rattle.std.specs.Prelude.{if◌then◌else◌}
 use Prim.Native.Nat.{ℕ, zero, suc, ◌+◌, ◌*◌, ◌≤◌, ◌<◌}
 use mathlib.Core.Path.{◌≡◌, refl, ap, subst}
 use mathlib.Core.Bool.{Bool, true, false}
@@ -7,7 +8,7 @@ use native.Mathlib.Omega.{arith}
 use lib.Dec.{T, eqb, eqb-suc-zero}
 use lib.ListN.{set}
 use borrow.Author.Tests.{eqb-true, eqb-false}
-use Rattle.rules.specs.Lists.{if◌then◌else◌, total, tabulate, times, first}
+use Rattle.rules.specs.Lists.{total, tabulate, times, first}
 use Rattle.rules.specs.State.{Core, queues_of}
 use Rattle.rules.specs.Layout.{core_at, core_runs, core_task, core_task_process, core_first, core_last, core_first_head, core_last_head}
 use Rattle.rules.specs.Packing.{heads, k_of, n_of, word_of_core, chain, work_numbered, view_core}

@@ -1,4 +1,5 @@
 -- Walks that are exact, and what was met on the way: a number for each process, 0 where it wasn't met.
+use Rattle.std.specs.Prelude.{if◌then◌else◌}
 use Prim.Native.Nat.{ℕ, ◌+◌, ◌*◌, ◌≤◌, ◌<◌}
 use mathlib.Core.Path.{◌≡◌, refl, sym, ap, ◌∙◌, subst}
 use mathlib.Core.Bool.{Bool, true, false}
@@ -9,7 +10,7 @@ use lib.ListN.{length, get_or, set, length-set}
 use lib.Seq.{get_or-set_same, get_or-set_other}
 use borrow.Author.Tests.{eqb-true, eqb-false, leb-true, leb-false, eq-eqb, ne_eqb}
 use Rattle.rules.specs.Layout.{room}
-use Rattle.rules.specs.Lists.{if◌then◌else◌, within, bit}
+use Rattle.rules.specs.Lists.{within, bit}
 use Rattle.rules.proofs.Tests.{both, together, within_means}
 use Rattle.fitting.proofs.Tests.{equal_holds, within_holds}
 use Rattle.fitting.specs.Twin.{fresh, Walk, flaw, well, and_then}

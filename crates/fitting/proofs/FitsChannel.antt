@@ -1,4 +1,5 @@
 -- A channel of a table fits exactly where the channel that is read out of it is valid, and its words are read out whatever they are.
+use Rattle.std.specs.Prelude.{if◌then◌else◌}
 use Prim.Native.Nat.{ℕ, zero, suc, ◌/◌, ◌%◌, ◌<◌}
 use mathlib.Core.Path.{◌≡◌, refl, sym}
 use mathlib.Core.Bool.{Bool, true, false, ◌||◌}
@@ -8,7 +9,7 @@ use lib.Dec.{eqb}
 use lib.ListN.{get_or}
 use borrow.Author.Tests.{eqb-true, eqb-false, lt-ltb}
 use Rattle.rules.specs.Layout.{channel_stride, channel_holder, channel_transfers}
-use Rattle.rules.specs.Lists.{if◌then◌else◌, within}
+use Rattle.rules.specs.Lists.{within}
 use Rattle.rules.specs.State.{nobody, plain, choosing, Wiring}
 use Rattle.rules.specs.Packing.{word_number, word_numbered, k_of, n_of, word_of_channel, channel_words, view_channel}
 use Rattle.rules.specs.Soundness.{valid_word, valid_channel}

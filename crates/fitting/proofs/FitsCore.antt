@@ -1,11 +1,12 @@
 -- The words of a core that belong to no queue fit exactly where they are those of a valid core.
+use Rattle.std.specs.Prelude.{if◌then◌else◌}
 use Prim.Native.Nat.{ℕ, zero, suc, ◌+◌, ◌-◌, ◌≤◌, ◌<◌}
 use mathlib.Core.Path.{◌≡◌, refl}
 use mathlib.Core.Bool.{Bool, ◌&&◌}
 use mathlib.Core.List.{List, [], ◌∷◌}
 use native.Mathlib.Omega.{arith}
 use lib.Dec.{T, eqb, leb, eqb→eq, leb→le, le→leb, eqb-suc-zero}
-use Rattle.rules.specs.Lists.{if◌then◌else◌, within, bit}
+use Rattle.rules.specs.Lists.{within, bit}
 use Rattle.rules.specs.State.{Wiring}
 use Rattle.rules.specs.Layout.{core_stride, core_at, core_runs, core_task, core_task_process, core_dispatch, core_mark, core_spare, task_wake}
 use Rattle.rules.specs.Packing.{work_words, word_of_core, work_numbered}

@@ -1,4 +1,5 @@
 -- The words of a process's progress fit exactly where they are those of a valid progress.
+use Rattle.std.specs.Prelude.{if◌then◌else◌}
 use Prim.Native.Nat.{ℕ, zero, suc, ◌+◌, ◌-◌, ◌≤◌}
 use mathlib.Core.Path.{◌≡◌, refl, sym, ap, ◌∙◌, subst}
 use mathlib.Core.Bool.{Bool, true, false, ◌&&◌, ◌||◌}
@@ -10,7 +11,7 @@ use native.Mathlib.Nat.{add-zero, sub-zero, suc-sub-suc}
 use lib.Dec.{T, eqb, leb, eqb→eq, leb→le, le→leb, eqb-suc-zero, leb-zero}
 use lib.ListN.{length, take}
 use borrow.Author.Tests.{leb-true, leb-false, le-leb}
-use Rattle.rules.specs.Lists.{if◌then◌else◌, within, all, tabulate, member, distinct}
+use Rattle.rules.specs.Lists.{within, all, tabulate, member, distinct}
 use Rattle.rules.specs.State.{Place, sending, receiving, Progress, Wiring, wiring}
 use Rattle.rules.specs.Layout.{process_at, process_progress, process_channel, process_partner, process_guards, process_index, process_first_ready, process_first_guard, progress_size, guard_places, due_chose}
 use Rattle.rules.specs.Packing.{place_number, ready_number, padded, progress_words, k_of, n_of, m_of, word_of_process, ready_numbered, progress_numbered, view_process, view}

@@ -1,4 +1,5 @@
 -- What the check finds, put together: a table fits exactly where its header, cores, processes and channels do.
+use Rattle.std.specs.Prelude.{if◌then◌else◌}
 use Prim.Native.Nat.{ℕ, zero, suc, ◌+◌, ◌-◌, ◌≤◌, ◌<◌}
 use mathlib.Core.Path.{◌≡◌, refl, ap, ◌∙◌}
 use mathlib.Core.Bool.{Bool, true, false, ◌&&◌}
@@ -8,7 +9,7 @@ use native.Mathlib.Omega.{arith}
 use native.Mathlib.Nat.{zero-add}
 use lib.Dec.{T, eqb, leb, eqb→eq, le→leb}
 use lib.ListN.{length, get_or, replicate, length-replicate, get_or-replicate}
-use Rattle.rules.specs.Lists.{if◌then◌else◌, within, all, total, from}
+use Rattle.rules.specs.Lists.{within, all, total, from}
 use Rattle.rules.specs.State.{wiring}
 use Rattle.rules.specs.Layout.{header_size, room, header_spare, process_place}
 use Rattle.rules.specs.SetUp.{sizes}

@@ -1,5 +1,6 @@
 -- The links of a table and the links of a state: a linked list is the chain of its links, and where the sums of the packing are not 0
 -- they are what a list says.
+use Rattle.std.specs.Prelude.{if◌then◌else◌}
 use Prim.Native.Nat.{ℕ, zero, suc, ◌+◌, ◌*◌, ◌≤◌, ◌<◌}
 use mathlib.Core.Path.{◌≡◌, refl, sym, ap, ◌∙◌, subst}
 use mathlib.Core.Bool.{Bool, true, false}
@@ -8,7 +9,7 @@ use native.Mathlib.Omega.{arith}
 use lib.Dec.{eqb, eqb→eq}
 use lib.ListN.{length, get_or}
 use borrow.Author.Tests.{eqb-true, eq-eqb}
-use Rattle.rules.specs.Lists.{if◌then◌else◌, total, bit, times, first, last, follows}
+use Rattle.rules.specs.Lists.{total, bit, times, first, last, follows}
 use Rattle.rules.specs.State.{Core, queues_of, State}
 use Rattle.rules.specs.Items.{core_of, no_core}
 use Rattle.rules.specs.Packing.{heads, next_link, if_head, head_link, batch_link, chain}

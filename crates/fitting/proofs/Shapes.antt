@@ -1,5 +1,6 @@
 -- Which words of a progress mean something, by its number: for each number, the words of the progress that is read out,
 -- when it is valid and which places it fits.
+use Rattle.std.specs.Prelude.{if◌then◌else◌}
 use Prim.Native.Nat.{ℕ, zero, suc, ◌+◌, ◌≤◌, ◌<◌}
 use mathlib.Core.Path.{◌≡◌, refl, sym, subst}
 use mathlib.Core.Bool.{Bool, true, ◌&&◌, ◌||◌}
@@ -11,7 +12,7 @@ use lib.Dec.{T, leb, leb→le}
 use lib.ListN.{length, get_or}
 use borrow.Author.Tests.{ne_eqb, le-leb, lt-leb}
 use Rattle.rules.specs.Layout.{at_nothing, at_send_look, at_send_park, at_send_copy, at_send_clear, at_send_wake, at_receive_look, at_receive_park, at_receive_copy, at_receive_clear, at_receive_wake, at_enable_look, at_raise, at_place_name, at_ready_from_look, at_ready_from_place, at_wait, at_disable, at_lower, at_finish, due_go, due_sent, due_got, due_chose}
-use Rattle.rules.specs.Lists.{if◌then◌else◌, within}
+use Rattle.rules.specs.Lists.{within}
 use Rattle.rules.specs.State.{
   Place,
   running,

@@ -1,5 +1,6 @@
 -- What the walks of the check find. Each walk is exact: it finds no flaw just where what it looks for holds, and then it has met just
 -- what it went over.
+use Rattle.std.specs.Prelude.{if◌then◌else◌}
 use Prim.Native.Nat.{ℕ, zero, suc, ◌+◌, ◌*◌, ◌≤◌}
 use mathlib.Core.Path.{◌≡◌, refl, ap, subst}
 use mathlib.Core.Bool.{Bool, true, false, ◌&&◌}
@@ -8,7 +9,7 @@ use native.Mathlib.Omega.{arith}
 use lib.Dec.{T, eqb, eqb→eq, eqb-suc-zero}
 use lib.ListN.{length, set}
 use borrow.Author.Tests.{eqb-true}
-use Rattle.rules.specs.Lists.{if◌then◌else◌, within, total, bit, times}
+use Rattle.rules.specs.Lists.{within, total, bit, times}
 use Rattle.rules.specs.Layout.{process_at, core_last_head, process_next, process_last, process_next_head}
 use Rattle.rules.specs.Packing.{k_of, n_of, word_of_core, word_of_process, chain}
 use Rattle.rules.proofs.Tests.{both, three, together, within_means}

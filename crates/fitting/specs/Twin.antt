@@ -1,8 +1,8 @@
 -- The soundness check as a pure function of the table that goes the way of the code: header, then core by core its queues, process by
 -- process along each chain, then the processes, then the channels. The first record with a flaw ends it. Tests that the code makes
 -- together within a record, before it leaves, are joined by `&&` here as the others are.
-use Rattle.std.specs.Prelude.{ℕ, zero, suc, ◌+◌, ◌-◌, ◌/◌, Bool, true, false, ◌&&◌, ◌||◌, List, eqb, leb, length, get_or, set, replicate}
-use Rattle.rules.specs.Lists.{if◌then◌else◌, within}
+use Rattle.std.specs.Prelude.{ℕ, zero, suc, ◌+◌, ◌-◌, ◌/◌, Bool, true, false, ◌&&◌, ◌||◌, List, eqb, leb, length, get_or, set, replicate, if◌then◌else◌}
+use Rattle.rules.specs.Lists.{within}
 use Rattle.rules.specs.Layout.{header_size, core_stride, process_stride, core_at, process_at, channel_at, room, header_cores, header_processes, header_channels, header_spare, core_runs, core_task, core_task_process, core_first, core_last, core_dispatch, core_mark, core_first_head, core_last_head, core_spare, process_place, process_enabling, process_not_ready, process_waiting, process_count, process_progress, process_channel, process_partner, process_guards, process_index, process_first_ready, process_first_guard, process_next, process_last, process_next_head, process_spare, guard_places, links_size, channel_writer, channel_reader, channel_holder, place_running, place_queued, place_asleep, place_ended, task_none, task_wake, at_nothing, at_send_look, at_send_copy, at_send_wake, at_receive_look, at_receive_copy, at_receive_wake, at_enable_look, at_ready_from_place, at_disable, at_lower, at_finish, due_sent, due_got, due_chose}
 use Rattle.rules.specs.SetUp.{sizes}
 

@@ -1,6 +1,5 @@
 -- What every call but a set-up is refused for before its rule is looked at, as a number; 0 where it isn't.
-use Rattle.std.specs.Prelude.{ℕ, List, ltb}
-use Rattle.rules.specs.Lists.{if◌then◌else◌}
+use Rattle.std.specs.Prelude.{ℕ, List, ltb, if◌then◌else◌}
 use Rattle.rules.specs.Numbers.{ANSWER, DAMAGED, CORE, refusal_number, Lent, well_lent}
 use Rattle.rules.specs.Packing.{k_of}
 use Rattle.rules.specs.Soundness.{sound}

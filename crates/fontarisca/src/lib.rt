@@ -101,24 +101,14 @@ pub fn fontarisca_send(
 }
 
 // It receives on the channel, of which it is the reader.
-pub fn fontarisca_receive(
-    table: &mut [u32],
-    answer: &mut [u32],
-    core: u32,
-    channel: u32,
-) -> u32
+pub fn fontarisca_receive(table: &mut [u32], answer: &mut [u32], core: u32, channel: u32) -> u32
     ensures { Meets (receive_call table.old (lends answer.old) core channel) (gives result (lends answer.new) table.new) }
 {
     make_request(table, answer, core, Request::Receive(channel), &[])
 }
 
 // It chooses over these channels, of which it is the reader.
-pub fn fontarisca_choose(
-    table: &mut [u32],
-    answer: &mut [u32],
-    core: u32,
-    guards: &[u32],
-) -> u32
+pub fn fontarisca_choose(table: &mut [u32], answer: &mut [u32], core: u32, guards: &[u32]) -> u32
     ensures { Meets (choose_call table.old (lends answer.old) core guards.now) (gives result (lends answer.new) table.new) }
 {
     make_request(table, answer, core, Request::Choose, guards)

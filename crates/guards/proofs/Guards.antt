@@ -1,4 +1,5 @@
 -- A table in which a process is at a stage of a choice: its words, its guards, and what it packs after the process goes on.
+use Rattle.std.specs.Prelude.{if◌then◌else◌}
 use Prim.Native.Nat.{ℕ, zero, suc, ◌+◌, ◌-◌, ◌≤◌, ◌<◌}
 use mathlib.Core.Path.{◌≡◌, refl, sym, ap, ◌∙◌}
 use mathlib.Core.Bool.{Bool, true, false}
@@ -8,7 +9,7 @@ use native.Mathlib.Omega.{arith}
 use native.Mathlib.Nat.{zero-add}
 use lib.Dec.{T, ltb, lit<}
 use lib.ListN.{length, get_or, set}
-use Rattle.rules.specs.Lists.{if◌then◌else◌, within, all, distinct}
+use Rattle.rules.specs.Lists.{within, all, distinct}
 use Rattle.rules.specs.State.{receiving, Stage, doing, Process, Alternation, ChannelWord, State, wiring}
 use Rattle.rules.specs.Items.{process_of, no_process, put, alternation, progress, channel_word}
 use Rattle.rules.specs.Choice.{guard}

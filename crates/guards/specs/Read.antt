@@ -1,7 +1,7 @@
 -- A choice's guards, index, first ready guard and count as they stand in the table, and what goes to the next guard.
-use Rattle.std.specs.Prelude.{ℕ, ◌+◌, ◌-◌, ◌<◌, List, eqb, ltb, length, get_or, set, take}
+use Rattle.std.specs.Prelude.{ℕ, ◌+◌, ◌-◌, ◌<◌, List, eqb, ltb, length, get_or, set, take, if◌then◌else◌}
 use Rattle.std.proofs.Math.Option.{Option}
-use Rattle.rules.specs.Lists.{if◌then◌else◌, tabulate}
+use Rattle.rules.specs.Lists.{tabulate}
 use Rattle.rules.specs.Numbers.{Answer}
 use Rattle.rules.specs.State.{Stage}
 use Rattle.rules.specs.Rule.{Rule}

@@ -1,5 +1,6 @@
 -- What a table holds after a word is written; and where its words are known but for one block in focus, a list, after words of that block
 -- are written.
+use Rattle.std.specs.Prelude.{if◌then◌else◌}
 use Prim.Native.Nat.{ℕ, suc, ◌+◌, ◌≤◌, ◌<◌}
 use mathlib.Core.Path.{◌≡◌, refl, sym, ap, ◌∙◌}
 use mathlib.Core.Bool.{Bool, true, false}
@@ -10,7 +11,7 @@ use lib.Dec.{T, eqb, ltb, ltb→lt}
 use lib.ListN.{length, get_or, set, length-set, length-append}
 use lib.Seq.{get_or-set_same, get_or-set_other, set-append_left}
 use borrow.Author.Tests.{eqb-true, eqb-false, lt-ltb, ne_eqb}
-use Rattle.rules.specs.Lists.{if◌then◌else◌, all}
+use Rattle.rules.specs.Lists.{all}
 use Rattle.rules.specs.Items.{Region, cores, processes, channels}
 use Rattle.rules.specs.Layout.{core_stride, process_stride, channel_stride, core_at, process_at, channel_at, room}
 use Rattle.rules.proofs.Tests.{same_test, apart, here_or_there, both}

@@ -1,5 +1,6 @@
 -- A packing while a core's words and the links of processes are written: what it holds, and when it is the packing of the state with
 -- another core. Each link is a sum over the cores, so another core changes it by that core's share alone.
+use Rattle.std.specs.Prelude.{if◌then◌else◌}
 use Prim.Native.Nat.{ℕ, zero, suc, ◌+◌, ◌-◌, ◌≤◌, ◌<◌}
 use mathlib.Core.Path.{◌≡◌, refl, sym, ap, ◌∙◌, subst}
 use mathlib.Core.Bool.{Bool, true, false, ◌&&◌}
@@ -9,7 +10,7 @@ use lib.Dec.{T, eqb, ltb, leb, leb→le, ltb→lt}
 use lib.ListN.{length, get_or, set}
 use lib.Seq.{get_or-set_same, get_or-set_other, set-get_or}
 use borrow.Author.Tests.{eqb-true, eqb-false, leb-false, ltb-false}
-use Rattle.rules.specs.Lists.{if◌then◌else◌, total, bit, times, first, last, follows}
+use Rattle.rules.specs.Lists.{total, bit, times, first, last, follows}
 use Rattle.rules.specs.State.{Process, Core, queues_of, State}
 use Rattle.rules.specs.Items.{cores, core_of, process_of, no_core, put, core}
 use Rattle.rules.specs.Layout.{core_stride, process_stride, core_at, process_at, channel_at, room, core_first, core_spare, process_next, process_last, process_size, process_next_head, process_spare, links_size}

@@ -1,11 +1,12 @@
 -- Load: the first batch of a core's run queue becomes its active queue, which was empty.
+use Rattle.std.specs.Prelude.{if◌then◌else◌}
 use Prim.Native.Nat.{ℕ, ◌<◌}
 use mathlib.Core.Path.{◌≡◌, refl, sym, ap, ◌∙◌}
 use mathlib.Core.List.{List, [], ◌∷◌}
 use native.Mathlib.Omega.{arith}
 use lib.Dec.{T, eqb, lit<}
 use lib.ListN.{length}
-use Rattle.rules.specs.Lists.{if◌then◌else◌, within, all, total, times, first, last, follows}
+use Rattle.rules.specs.Lists.{within, all, total, times, first, last, follows}
 use Rattle.rules.specs.State.{Core, State}
 use Rattle.rules.specs.Items.{core_of, put, core}
 use Rattle.rules.specs.Layout.{core_at, process_at, core_first, core_last, core_size, core_first_head, core_last_head, process_last, process_size, process_next_head}

@@ -1,4 +1,5 @@
 -- Split: a core's active queue becomes the two last batches of its run queue, its first process alone, then the others.
+use Rattle.std.specs.Prelude.{if◌then◌else◌}
 use Prim.Native.Nat.{ℕ, ◌-◌, ◌≤◌, ◌<◌}
 use mathlib.Core.Path.{◌≡◌, sym, ap, ◌∙◌, subst}
 use mathlib.Core.List.{List, [], ◌∷◌, ◌++◌, append_assoc}
@@ -6,7 +7,7 @@ use native.Mathlib.Omega.{arith}
 use lib.Dec.{eqb, lit<}
 use lib.ListN.{length}
 use borrow.Author.Tests.{eq-eqb}
-use Rattle.rules.specs.Lists.{if◌then◌else◌, total, bit, times, first, last, follows}
+use Rattle.rules.specs.Lists.{total, bit, times, first, last, follows}
 use Rattle.rules.specs.State.{Core, State}
 use Rattle.rules.specs.Items.{core_of, put, core}
 use Rattle.rules.specs.Layout.{core_at, process_at, core_first, core_last, core_size, core_last_head, process_next, process_last, process_size, process_next_head}

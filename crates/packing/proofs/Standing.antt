@@ -1,4 +1,5 @@
 -- What the order of the queues says of one core's queues.
+use Rattle.std.specs.Prelude.{if◌then◌else◌}
 use Prim.Native.Nat.{ℕ, ◌+◌, ◌≤◌, ◌<◌}
 use mathlib.Core.Path.{◌≡◌, refl, ap, ◌∙◌}
 use mathlib.Core.List.{List, [], ◌∷◌, ◌++◌}
@@ -7,7 +8,7 @@ use native.Mathlib.Nat.{le_trans}
 use lib.Dec.{T, eqb}
 use lib.ListN.{length}
 use borrow.Author.Tests.{ne_eqb}
-use Rattle.rules.specs.Lists.{if◌then◌else◌, within, all, total, times, first, last}
+use Rattle.rules.specs.Lists.{within, all, total, times, first, last}
 use Rattle.rules.specs.State.{State}
 use Rattle.rules.specs.Items.{core_of, no_core}
 use Rattle.rules.specs.Packing.{heads}

@@ -1,7 +1,7 @@
 -- The five changes of queues as writes into the table: a few words each, whatever the length of a queue. K is the number of cores,
 -- k a core.
-use Rattle.std.specs.Prelude.{ℕ, ◌+◌, ◌-◌, ◌≤◌, ◌<◌, List, T, eqb, length, set}
-use Rattle.rules.specs.Lists.{if◌then◌else◌, within, all}
+use Rattle.std.specs.Prelude.{ℕ, ◌+◌, ◌-◌, ◌≤◌, ◌<◌, List, T, eqb, length, set, if◌then◌else◌}
+use Rattle.rules.specs.Lists.{within, all}
 use Rattle.rules.specs.State.{Core, queues_of, State}
 use Rattle.rules.specs.Items.{core_of}
 use Rattle.rules.specs.Layout.{core_at, process_at, core_first, core_last, core_size, core_first_head, core_last_head, process_next, process_last, process_size, process_next_head}

@@ -1,7 +1,6 @@
 -- What the shared parts of the steps write into the table.
-use Rattle.std.specs.Prelude.{ℕ, List, set, replicate, eqb}
+use Rattle.std.specs.Prelude.{ℕ, List, set, replicate, eqb, if◌then◌else◌}
 use Rattle.std.proofs.lemmas.List.Edits.{sets}
-use Rattle.rules.specs.Lists.{if◌then◌else◌}
 use Rattle.rules.specs.Numbers.{Answer, GO, SENT, GOT, CHOSE}
 use Rattle.rules.specs.Layout.{core_at, process_at, core_runs, core_task, core_task_process, process_place, process_progress, process_channel, progress_size, place_asleep, due_go, due_sent, due_got}
 

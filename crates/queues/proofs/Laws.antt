@@ -1,4 +1,5 @@
 -- The changes of queues on a packing, with what the rules change beside them.
+use Rattle.std.specs.Prelude.{if◌then◌else◌}
 use Prim.Native.Nat.{ℕ, ◌≤◌, ◌<◌}
 use mathlib.Core.Path.{◌≡◌, refl, ap, ◌∙◌}
 use mathlib.Core.Bool.{Bool, true, false, not}
@@ -7,7 +8,7 @@ use lib.ListN.{length, set, length-set}
 use native.Mathlib.Omega.{arith}
 use lib.Dec.{eqb, lit<}
 use borrow.Author.Tests.{ne_eqb}
-use Rattle.rules.specs.Lists.{first, bit, if◌then◌else◌}
+use Rattle.rules.specs.Lists.{first, bit}
 use Rattle.rules.specs.State.{running, queued, no_task, runs, free, Core, State}
 use Rattle.rules.specs.Items.{core_of, put, core, place}
 use Rattle.rules.specs.Layout.{core_at, process_at, core_runs, core_size, core_dispatch, core_mark, core_first_head, process_place, place_running, place_queued}

@@ -1,4 +1,5 @@
 -- What the parts of a change of a queue need follows from what the whole needs.
+use Rattle.std.specs.Prelude.{if◌then◌else◌}
 use Prim.Native.Nat.{ℕ, ◌-◌, ◌<◌}
 use mathlib.Core.Path.{◌≡◌, sym, ◌∙◌}
 use mathlib.Core.Bool.{Bool, true, false, ◌||◌, true≢false}
@@ -7,7 +8,6 @@ use native.Mathlib.Omega.{arith}
 use lib.Dec.{eqb}
 use lib.ListN.{length, set, length-set}
 use lib.Seq.{get_or-set_other}
-use Rattle.rules.specs.Lists.{if◌then◌else◌}
 use Rattle.rules.specs.Layout.{core_stride, core_at, process_at, core_first, core_last, core_size, core_mark, core_last_head, process_place, process_next, place_queued}
 use Rattle.rules.specs.Packing.{word_at}
 use Rattle.packing.specs.Queues.{store_heads, store_table, split_table}

@@ -1,6 +1,5 @@
 -- What is asked of a run queue from outside. These aren't opened there: what they do to a state is said by their laws (proofs/Laws.antt).
-use Rattle.std.specs.Prelude.{ℕ, Bool, true, false, not, ◌||◌, List, [], ◌∷◌, eqb}
-use Rattle.rules.specs.Lists.{if◌then◌else◌}
+use Rattle.std.specs.Prelude.{ℕ, Bool, true, false, not, ◌||◌, List, [], ◌∷◌, eqb, if◌then◌else◌}
 use Rattle.rules.specs.Layout.{core_at, core_size, core_mark, core_first_head}
 use Rattle.rules.specs.Packing.{word_at}
 use Rattle.packing.specs.Queues.{store_table, split_table, load_table}

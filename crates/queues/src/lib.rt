@@ -1,8 +1,7 @@
 // The queues of core k as chains in the table (docs/PACKING.md, "Queues"): a few words are written, whatever a queue's length.
 #![tactic(auto)]
 
-ghost use Rattle.std.specs.Prelude.{◌≡◌, ◌<◌, set, eqb};
-ghost use Rattle.rules.specs.Lists.{if◌then◌else◌};
+ghost use Rattle.std.specs.Prelude.{◌≡◌, ◌<◌, set, eqb, if◌then◌else◌};
 ghost use Rattle.rules.specs.Layout.{core_stride, process_stride, process_at, process_place, place_queued};
 ghost use Rattle.packing.specs.Queues.{link_end, push_table, take_table, store_heads, store_table, split_table, load_table};
 ghost use Rattle.table.specs.Has.{HasCore, HasProcess};

@@ -1,4 +1,5 @@
 -- How the tests of a path through the code decide a definition's own tests.
+use Rattle.std.specs.Prelude.{if◌then◌else◌}
 use Prim.Native.Nat.{ℕ, ◌≤◌}
 use mathlib.Core.Path.{◌≡◌, refl, sym, ◌∙◌}
 use mathlib.Core.Bool.{Bool, true, false, not, ◌&&◌}
@@ -6,7 +7,7 @@ use mathlib.Core.Logic.{◌⊎◌, inl, inr}
 use lib.Dec.{leb}
 use borrow.Author.Tests.{eq-eqb, ne_eqb, leb-true}
 use Rattle.rules.specs.SetUp.{sizes}
-use Rattle.rules.specs.Lists.{if◌then◌else◌, within}
+use Rattle.rules.specs.Lists.{within}
 
 pub decide : (b : Bool) → (b ≡ true) ⊎ (b ≡ false)
 decide true = inl refl

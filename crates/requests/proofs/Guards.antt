@@ -1,4 +1,5 @@
 -- A list of guards, gone through guard by guard.
+use Rattle.std.specs.Prelude.{if◌then◌else◌}
 use Prim.Native.Nat.{ℕ, zero, suc, ◌+◌, ◌<◌}
 use mathlib.Core.Path.{◌≡◌, refl, sym, ap, ◌∙◌}
 use mathlib.Core.Bool.{Bool, true, false, ◌||◌}
@@ -9,7 +10,7 @@ use lib.Dec.{eqb}
 use lib.ListN.{length, get_or, take, drop}
 use lib.Seq.{take-suc, drop-cons, drop-length}
 use borrow.Author.Tests.{eq-eqb, ne_eqb}
-use Rattle.rules.specs.Lists.{if◌then◌else◌, member}
+use Rattle.rules.specs.Lists.{member}
 use Rattle.rules.specs.Numbers.{CHANNEL, OTHER_END, TWICE, Answer, refusal_number}
 use Rattle.rules.specs.State.{receiving, State, Wiring, is_channel, may_use}
 use Rattle.rules.specs.Rule.{Rule, run, ◌>>◌}

@@ -1,4 +1,5 @@
 -- The process that runs on a core of a sound table, and whether it has anything in hand.
+use Rattle.std.specs.Prelude.{if◌then◌else◌}
 use Prim.Native.Nat.{ℕ, ◌<◌}
 use mathlib.Core.Path.{◌≡◌, refl, sym, ap, ◌∙◌, subst}
 use mathlib.Core.Bool.{Bool, true, false}
@@ -7,7 +8,6 @@ use native.Mathlib.Omega.{arith}
 use lib.Dec.{eqb, lit<}
 use lib.ListN.{length, get_or}
 use borrow.Author.Tests.{eqb-true, eqb-false, eq-eqb, ne_eqb}
-use Rattle.rules.specs.Lists.{if◌then◌else◌}
 use Rattle.rules.specs.Numbers.{Answer, BUSY}
 use Rattle.rules.specs.State.{Progress, nothing, doing, due, Task, no_task, trigger, wake_up, Work, runs, free, State, Wiring}
 use Rattle.rules.specs.Items.{core_of, process_of}

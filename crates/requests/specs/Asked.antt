@@ -1,7 +1,7 @@
 -- What the code's requests stand for, and what their functions are given, read, refuse and write.
-use Rattle.std.specs.Prelude.{ℕ, ◌≤◌, ◌≡◌, Bool, List, [], ◌∷◌, eqb, length, set}
+use Rattle.std.specs.Prelude.{ℕ, ◌≤◌, ◌≡◌, Bool, List, [], ◌∷◌, eqb, length, set, if◌then◌else◌}
 use Rattle.std.proofs.lemmas.List.Edits.{sets}
-use Rattle.rules.specs.Lists.{if◌then◌else◌, within, member}
+use Rattle.rules.specs.Lists.{within, member}
 use Rattle.rules.specs.Numbers.{CHANNEL, OTHER_END, TWICE, refusal_number}
 use Rattle.rules.specs.State.{runs, nothing}
 use Rattle.rules.specs.Items.{core_of, process_of}

@@ -1,4 +1,5 @@
 -- Lists counted from 1: what another n-th changes.
+use Rattle.std.specs.Prelude.{if◌then◌else◌}
 use Prim.Native.Nat.{ℕ, zero, suc, ◌≤◌}
 use native.Mathlib.Omega.{arith}
 use mathlib.Core.Path.{◌≡◌, refl, sym, ap, subst}
@@ -8,7 +9,7 @@ use lib.Dec.{T, eqb}
 use lib.ListN.{length, length-set}
 use lib.Seq.{set_out, get_or-set_same, get_or-set_other, map-set_same}
 use borrow.Author.Tests.{eqb-true, eqb-false}
-use Rattle.rules.specs.Lists.{if◌then◌else◌, nth, set_nth, within, all}
+use Rattle.rules.specs.Lists.{nth, set_nth, within, all}
 use Rattle.rules.proofs.Tests.{tests, within_means, all_set}
 
 module _ {A : Type 0} where

@@ -1,11 +1,12 @@
 -- Queues as lists: what follows a number, and what a batch's head keeps.
+use Rattle.std.specs.Prelude.{if◌then◌else◌}
 use Prim.Native.Nat.{ℕ, ◌≤◌}
 use mathlib.Core.Path.{◌≡◌, refl, sym, ap, ◌∙◌}
 use mathlib.Core.List.{List, [], ◌∷◌, ◌++◌}
 use native.Mathlib.Omega.{arith}
 use lib.Dec.{eqb}
 use borrow.Author.Tests.{eq-eqb, ne_eqb}
-use Rattle.rules.specs.Lists.{if◌then◌else◌, total, bit, times, first, last, follows}
+use Rattle.rules.specs.Lists.{total, bit, times, first, last, follows}
 use Rattle.rules.specs.Packing.{heads, if_head}
 use Rattle.rules.proofs.Tests.{by_test}
 use Rattle.rules.proofs.Sums.{total_zero, total_map, head_stands}

@@ -1,4 +1,5 @@
 -- Tests as facts: conjunctions, comparisons, tests of each of a list, and what holds in both cases of a test.
+use Rattle.std.specs.Prelude.{if◌then◌else◌}
 use Prim.Native.Nat.{ℕ, zero, suc, ◌+◌, ◌≤◌, ◌<◌}
 use native.Mathlib.Omega.{arith}
 use native.Mathlib.Decide.{ℕ_discrete}
@@ -9,7 +10,7 @@ use mathlib.Core.List.{List, [], ◌∷◌, ◌++◌}
 use lib.Dec.{T, eqb, leb, leb→le, le→leb, eqb→eq, eqb_refl}
 use lib.ListN.{length, get_or, set}
 use borrow.Author.Tests.{eqb-true, eqb-false, eq-eqb, ne_eqb}
-use Rattle.rules.specs.Lists.{if◌then◌else◌, nth, within, all, tabulate, from, bit, times, same_words}
+use Rattle.rules.specs.Lists.{nth, within, all, tabulate, from, bit, times, same_words}
 
 -- a conjunction holds where both halves do
 pub and_means : (a b : Bool) → T (a && b) ↔ (T a × T b)

@@ -1,6 +1,6 @@
 -- Document 01, "Bench sheet": the cases marked *, through the calls that the exports' contracts cite.
-use Rattle.std.specs.Prelude.{ℕ, ◌≡◌, Bool, true, false, List, [], ◌∷◌, ◌++◌, map, replicate}
-use Rattle.rules.specs.Lists.{tabulate, from, member, if◌then◌else◌}
+use Rattle.std.specs.Prelude.{ℕ, ◌≡◌, Bool, true, false, List, [], ◌∷◌, ◌++◌, map, replicate, if◌then◌else◌}
+use Rattle.rules.specs.Lists.{tabulate, from, member}
 use Rattle.rules.specs.Numbers.{Answer, BUILT, TAKEN, MOVED, SLEPT, GO, SENT, GOT, CHOSE, ROOM, yes_with, no_because, number_of, Lent, lends, written}
 use Rattle.rules.specs.State.{Place, queued, asleep, ended, go, nothing, due, Alternation, Process, no_task, trigger, wake_up, Work, free}
 use Rattle.rules.specs.Items.{core_of, process_of, no_alternation, put, alternation, transfers}

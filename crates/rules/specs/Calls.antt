@@ -1,8 +1,7 @@
 -- Each call of the library as a function of the table and its arguments: the number returned, what was lent for the answer and the table
 -- afterwards, for every table and every argument. These are what the exports' contracts cite.
-use Rattle.std.specs.Prelude.{ℕ, List, ltb, length}
+use Rattle.std.specs.Prelude.{ℕ, List, ltb, length, if◌then◌else◌}
 use Rattle.std.proofs.Math.Option.{Option, none, some}
-use Rattle.rules.specs.Lists.{if◌then◌else◌}
 use Rattle.rules.specs.Numbers.{Answer, BUILT, Refusal, ANSWER, DAMAGED, CORE, yes_with, no_because, number_of, Lent, well_lent, written}
 use Rattle.rules.specs.State.{State, Wiring, users}
 use Rattle.rules.specs.Rule.{Rule, Ran, accepted, refused, run}

@@ -1,8 +1,8 @@
 -- Document 01, "Steps of choosing" (000, section 4.1), for the process p that runs on core k and chooses over guards gs. The rules
 -- are 01's: they differ from the paper's figures 8 to 11 where 01 does.
-use Rattle.std.specs.Prelude.{ℕ, zero, suc, ◌+◌, Bool, true, false, ◌||◌, List, eqb, ltb, length}
+use Rattle.std.specs.Prelude.{ℕ, zero, suc, ◌+◌, Bool, true, false, ◌||◌, List, eqb, ltb, length, if◌then◌else◌}
 use Rattle.std.proofs.Math.Option.{Option, none, some}
-use Rattle.rules.specs.Lists.{if◌then◌else◌, nth}
+use Rattle.rules.specs.Lists.{nth}
 use Rattle.rules.specs.Numbers.{Answer, MOVED, FAULT}
 use Rattle.rules.specs.State.{
   Stage,

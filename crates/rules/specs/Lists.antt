@@ -1,12 +1,7 @@
 -- The few functions on lists and tests that the definitions share. Numbers, lists and tests are the library's own.
 -- Here and below, `abbrev` and `pub` say nothing of what is defined: the prover always reads an `abbrev` as what it stands for, and other
 -- files may cite what is `pub`.
-use Rattle.std.specs.Prelude.{ℕ, zero, suc, ◌+◌, Bool, true, false, ◌&&◌, ◌||◌, List, [], ◌∷◌, eqb, leb, get_or, set}
-
-infix 5 if◌then◌else◌
-abbrev pub if◌then◌else◌ : {A : Type 0} → Bool → A → A → A
-if true then a else b = a
-if false then a else b = b
+use Rattle.std.specs.Prelude.{ℕ, zero, suc, ◌+◌, Bool, true, false, if◌then◌else◌, ◌&&◌, ◌||◌, List, [], ◌∷◌, eqb, leb, get_or, set}
 
 -- n is one of low, .. high
 abbrev pub within : ℕ → ℕ → ℕ → Bool

@@ -1,8 +1,8 @@
 -- The packing (docs/PACKING.md): each state as a table of T words (Layout.antt says where each lies), and a state read out of any table.
-use Rattle.std.specs.Prelude.{ℕ, zero, suc, ◌+◌, ◌*◌, ◌-◌, ◌/◌, ◌%◌, eqb, length, get_or, take, replicate}
+use Rattle.std.specs.Prelude.{ℕ, zero, suc, ◌+◌, ◌*◌, ◌-◌, ◌/◌, ◌%◌, eqb, length, get_or, take, replicate, if◌then◌else◌}
 use mathlib.Core.List.{List, [], ◌∷◌, ◌++◌, map, flat_map}
 use Rattle.std.proofs.Math.Option.{Option, none, some}
-use Rattle.rules.specs.Lists.{if◌then◌else◌, total, tabulate, from, bit, first, last, follows}
+use Rattle.rules.specs.Lists.{total, tabulate, from, bit, first, last, follows}
 use Rattle.rules.specs.State.{Place, running, queued, asleep, ended, sending, receiving, look, park, copy, clear, wake, enable_look, raise, place_name, ready_from_look, ready_from_place, wait, disable, lower, finish, go, sent, got, chose, Progress, nothing, doing, due, Process, no_task, trigger, wake_up, Work, runs, free, Core, queues_of, ChannelWord, nobody, plain, choosing, Channel, State}
 use Rattle.rules.specs.Items.{core_of, process_of, channel_of}
 use Rattle.rules.specs.Layout.{header_size, core_stride, process_stride, channel_stride, core_at, process_at, channel_at, header_cores, header_processes, header_channels, header_spare, core_runs, core_task, core_task_process, core_first, core_dispatch, core_mark, core_first_head, core_spare, process_place, process_data, process_enabling, process_not_ready, process_waiting, process_count, process_progress, process_channel, process_partner, process_guards, process_index, process_first_ready, process_first_guard, process_next, process_next_head, process_spare, place_running, place_queued, place_asleep, place_ended, task_none, task_trigger, task_wake, at_nothing, at_send_look, at_send_park, at_send_copy, at_send_clear, at_send_wake, at_receive_look, at_receive_park, at_receive_copy, at_receive_clear, at_receive_wake, at_enable_look, at_raise, at_place_name, at_ready_from_look, at_ready_from_place, at_wait, at_disable, at_lower, at_finish, due_go, due_sent, due_got, due_chose, guard_places, channel_writer, channel_reader, channel_holder, channel_transfers, channel_spare}

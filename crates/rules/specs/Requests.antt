@@ -1,6 +1,6 @@
 -- Document 01, "Requests": what the running process of core k does next, and when it is refused.
-use Rattle.std.specs.Prelude.{ℕ, Bool, true, false, List, [], ◌∷◌, length}
-use Rattle.rules.specs.Lists.{if◌then◌else◌, within, member}
+use Rattle.std.specs.Prelude.{ℕ, Bool, true, false, List, [], ◌∷◌, length, if◌then◌else◌}
+use Rattle.rules.specs.Lists.{within, member}
 use Rattle.rules.specs.Numbers.{Answer, TAKEN, Refusal, BUSY, GUARDS, CHANNEL, OTHER_END, TWICE}
 use Rattle.rules.specs.State.{
   ended,

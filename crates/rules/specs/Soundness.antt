@@ -1,7 +1,7 @@
 -- Document 01, "The state": when a state is valid, sentence by sentence, and when a table is sound.
-use Rattle.std.specs.Prelude.{ℕ, Bool, true, false, ◌&&◌, List, [], ◌∷◌, eqb, leb, ltb, length}
+use Rattle.std.specs.Prelude.{ℕ, Bool, true, false, ◌&&◌, List, [], ◌∷◌, eqb, leb, ltb, length, if◌then◌else◌}
 use Rattle.std.proofs.Math.Option.{Option, none, some}
-use Rattle.rules.specs.Lists.{if◌then◌else◌, within, all, total, from, distinct, bit, times, same_words}
+use Rattle.rules.specs.Lists.{within, all, total, from, distinct, bit, times, same_words}
 use Rattle.rules.specs.State.{Place, running, queued, asleep, ended, Way, sending, receiving, Stage, look, park, copy, clear, wake, enable_look, raise, place_name, ready_from_look, ready_from_place, wait, disable, lower, finish, go, sent, got, chose, Progress, nothing, doing, due, no_task, trigger, wake_up, Work, runs, free, Core, queues_of, ChannelWord, nobody, plain, choosing, Channel, State, Wiring, wiring, is_channel, may_use, users}
 use Rattle.rules.specs.Items.{process_of}
 use Rattle.rules.specs.SetUp.{sizes}

@@ -1,7 +1,6 @@
 -- Document 01, "Touched items": the list of a call, read off the state before it. What is lent for the answer plays no part in it.
-use Rattle.std.specs.Prelude.{ℕ, zero, suc, ltb, length}
+use Rattle.std.specs.Prelude.{ℕ, zero, suc, ltb, length, if◌then◌else◌}
 use mathlib.Core.List.{List, [], ◌∷◌, ◌++◌, map, flat_map}
-use Rattle.rules.specs.Lists.{if◌then◌else◌}
 use Rattle.rules.specs.Numbers.{Answer}
 use Rattle.rules.specs.State.{
   Stage,

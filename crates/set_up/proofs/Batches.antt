@@ -1,4 +1,5 @@
 -- Process after process comes to stand alone in a batch of its core: what the table packs then.
+use Rattle.std.specs.Prelude.{if◌then◌else◌}
 use Prim.Native.Nat.{ℕ, zero, suc, ◌+◌, ◌-◌, ◌%◌, ◌≤◌, ◌<◌}
 use mathlib.Core.Path.{◌≡◌, refl, sym, ap, ◌∙◌, subst}
 use mathlib.Core.Bool.{Bool, true, false}
@@ -10,7 +11,7 @@ use lib.Dec.{T, eqb}
 use lib.ListN.{length, get_or, set, length-set}
 use lib.Seq.{get_or-set_same, get_or-set_other, set-set}
 use borrow.Author.Tests.{eq-eqb, ne_eqb}
-use Rattle.rules.specs.Lists.{if◌then◌else◌, within, all, total, tabulate, from, times}
+use Rattle.rules.specs.Lists.{within, all, total, tabulate, from, times}
 use Rattle.rules.specs.State.{Core, queues_of, State}
 use Rattle.rules.specs.Items.{core_of, core, put, no_core}
 use Rattle.rules.specs.Packing.{pack}

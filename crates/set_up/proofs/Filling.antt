@@ -1,4 +1,5 @@
 -- A table of zeros that is filled in block by block becomes the packing of the state that set-up builds.
+use Rattle.std.specs.Prelude.{if◌then◌else◌}
 use Prim.Native.Nat.{ℕ, zero, suc, ◌+◌, ◌*◌, ◌-◌, ◌≤◌, ◌<◌}
 use mathlib.Core.Path.{◌≡◌, refl, sym, ap, ◌∙◌, subst}
 use mathlib.Core.Bool.{Bool, true, false}
@@ -8,7 +9,6 @@ use lib.Dec.{T, ltb}
 use lib.ListN.{length, get_or, set, replicate, length-replicate, replicate-append-replicate, length-append, length-map, drop_of_length-le}
 use lib.Seq.{sets, sets-eq}
 use borrow.Author.Tests.{lt-ltb, le-ltb, ltb-true, ltb-false}
-use Rattle.rules.specs.Lists.{if◌then◌else◌}
 use Rattle.rules.specs.State.{State}
 use Rattle.rules.specs.Items.{channel_of, Region, processes, channels}
 use Rattle.rules.specs.Layout.{header_size, core_stride, core_at, process_at, channel_at, room, header_cores, header_processes, header_channels, header_spare, process_place, process_progress, channel_writer, channel_reader, place_queued, due_go}

@@ -1,8 +1,8 @@
 -- What set-up returns and writes, number by number.
-use Rattle.std.specs.Prelude.{ℕ, zero, suc, ◌+◌, ◌*◌, ◌-◌, ◌%◌, ◌≤◌, ◌<◌, ◌≡◌, Bool, ◌&&◌, List, length, get_or, set, replicate}
+use Rattle.std.specs.Prelude.{ℕ, zero, suc, ◌+◌, ◌*◌, ◌-◌, ◌%◌, ◌≤◌, ◌<◌, ◌≡◌, Bool, ◌&&◌, List, length, get_or, set, replicate, if◌then◌else◌}
 use Rattle.std.proofs.Math.Option.{Option, none, some}
 use Rattle.std.proofs.lemmas.List.Edits.{sets}
-use Rattle.rules.specs.Lists.{if◌then◌else◌, within}
+use Rattle.rules.specs.Lists.{within}
 use Rattle.rules.specs.Numbers.{Refusal, NAME, SELF, no_because, number_of}
 use Rattle.rules.specs.Layout.{process_at, channel_at, room, header_cores, header_processes, header_channels, process_place, process_progress, channel_writer, channel_reader, place_queued, due_go}
 use Rattle.packing.specs.Queues.{push_table}

@@ -1,4 +1,5 @@
 -- What the check's definition still asks at a place of the code's loops, and how each step of the code changes it.
+use Rattle.std.specs.Prelude.{if◌then◌else◌}
 use Prim.Native.Nat.{ℕ, suc, ◌+◌, ◌-◌, ◌≤◌, ◌<◌}
 use mathlib.Core.Path.{◌≡◌, refl, sym, ap, ◌∙◌}
 use mathlib.Core.Bool.{Bool, true, false}
@@ -9,7 +10,7 @@ use native.Mathlib.Numerals.{add-one}
 use lib.Dec.{eqb, leb}
 use lib.ListN.{length, set, replicate, length-set}
 use borrow.Author.Tests.{eq-eqb, ne_eqb, eqb-false, le-leb, leb-true}
-use Rattle.rules.specs.Lists.{if◌then◌else◌, within, bit}
+use Rattle.rules.specs.Lists.{within, bit}
 use Rattle.rules.specs.Layout.{core_at, process_at, room, core_runs, core_first, core_last, core_first_head, core_last_head, process_next}
 use Rattle.fitting.specs.Twin.{
   word,

@@ -1,10 +1,10 @@
 -- What a call tells of a walk.
+use Rattle.std.specs.Prelude.{if◌then◌else◌}
 use Prim.Native.Nat.{ℕ}
 use mathlib.Core.Path.{◌≡◌, refl, sym, ap, ◌∙◌}
 use mathlib.Core.Bool.{Bool, true, false, not}
 use mathlib.Core.List.{List}
 use borrow.Author.Tests.{not-true, not-false}
-use Rattle.rules.specs.Lists.{if◌then◌else◌}
 use Rattle.fitting.specs.Twin.{Walk, flaw, well}
 use Rattle.soundness.specs.Parts.{outcome}
 

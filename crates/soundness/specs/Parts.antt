@@ -1,6 +1,5 @@
 -- Parts of the check's definition by name, as the functions of the code take them.
-use Rattle.std.specs.Prelude.{ℕ, ◌+◌, Bool, ◌&&◌, List, eqb, leb, set, replicate}
-use Rattle.rules.specs.Lists.{if◌then◌else◌}
+use Rattle.std.specs.Prelude.{ℕ, ◌+◌, Bool, ◌&&◌, List, eqb, leb, set, replicate, if◌then◌else◌}
 use Rattle.rules.specs.Layout.{core_at, process_at, core_first, core_last, core_first_head, core_last_head, process_last, process_next_head}
 use Rattle.fitting.specs.Twin.{word, core_fits, Walk, flaw, well, meet_running, cores_walk, rest_fits}
 

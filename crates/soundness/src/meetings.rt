@@ -1,6 +1,5 @@
 // Who was met so far, a word for each process: 0 not met, 1 running, 2 in a queue, 3 the head of a batch.
-ghost use Rattle.std.specs.Prelude.{◌≡◌, ◌≤◌, length, set};
-ghost use Rattle.rules.specs.Lists.{if◌then◌else◌};
+ghost use Rattle.std.specs.Prelude.{◌≡◌, ◌≤◌, length, set, if◌then◌else◌};
 ghost use Rattle.rules.specs.Layout.{core_at, core_stride};
 ghost use Rattle.fitting.specs.Twin.{fresh};
 ghost use Rattle.soundness.specs.Parts.{outcome, core_enters, marked};

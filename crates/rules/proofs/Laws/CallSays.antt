@@ -1,4 +1,5 @@
 -- What each call and each set-up says, on any table and any arguments.
+use Rattle.std.specs.Prelude.{if◌then◌else◌}
 use Prim.Native.Nat.{ℕ, ◌*◌, ◌<◌}
 use mathlib.Core.Path.{◌≡◌, refl}
 use mathlib.Core.Bool.{Bool, true, false, not, ◌&&◌, ◌||◌}
@@ -6,7 +7,7 @@ use mathlib.Core.List.{List, [], ◌∷◌}
 use mathlib.Core.Option.{Option, none, some}
 use lib.Dec.{T, eqb, ltb, ltb→lt}
 use lib.ListN.{length}
-use Rattle.rules.specs.Lists.{if◌then◌else◌, within}
+use Rattle.rules.specs.Lists.{within}
 use Rattle.rules.specs.Numbers.{Answer, Refusal, SIZE, PAIRS, ROOM, NAME, SELF, ANSWER, DAMAGED, CORE, Lent, well_lent}
 use Rattle.rules.specs.State.{running, runs, State, users}
 use Rattle.rules.specs.Items.{core_of, process_of}

@@ -1,4 +1,5 @@
 -- What a write of one item leaves of the others, by one law for each region and one for each kind.
+use Rattle.std.specs.Prelude.{if◌then◌else◌}
 use Prim.Native.Nat.{ℕ, suc}
 use mathlib.Core.Path.{◌≡◌, refl, sym, ap, ◌∙◌, subst, subst_refl}
 use mathlib.Core.Bool.{Bool, true, false, ◌&&◌}
@@ -8,7 +9,7 @@ use lib.Dec.{eqb, eqb-suc-suc}
 use lib.ListN.{length, get_or, length-set, length-map, get_or-map}
 use lib.Seq.{ext_get_or}
 use borrow.Author.Tests.{eqb-true, eq-eqb, ne_eqb}
-use Rattle.rules.specs.Lists.{if◌then◌else◌, within}
+use Rattle.rules.specs.Lists.{within}
 use Rattle.rules.specs.State.{Ends, Channel, State, Wiring, wiring}
 use Rattle.rules.specs.Items.{
   Region,

@@ -1,11 +1,12 @@
 -- What a request says: BUSY, GUARDS, CHANNEL, OTHER_END or TWICE exactly where its case is the first given.
+use Rattle.std.specs.Prelude.{if◌then◌else◌}
 use Prim.Native.Nat.{ℕ, zero, suc}
 use mathlib.Core.Path.{◌≡◌, refl, ap}
 use mathlib.Core.Bool.{Bool, true, false, not}
 use mathlib.Core.List.{List, [], ◌∷◌}
 use lib.Dec.{eqb}
 use lib.ListN.{length, length-map, get_or-map}
-use Rattle.rules.specs.Lists.{if◌then◌else◌, within, member}
+use Rattle.rules.specs.Lists.{within, member}
 use Rattle.rules.specs.Numbers.{Answer, Refusal, BUSY, GUARDS, CHANNEL, OTHER_END, TWICE}
 use Rattle.rules.specs.State.{Way, sending, receiving, Progress, nothing, doing, due, Work, runs, free, Channel, State, users, at_end, end_of}
 use Rattle.rules.specs.Items.{no_channel, process_of, channel_of}

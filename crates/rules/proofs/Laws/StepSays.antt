@@ -1,11 +1,11 @@
 -- What a step says: FAULT exactly where one of its deeds is at fault, AWAITED exactly where the running process has nothing in hand.
+use Rattle.std.specs.Prelude.{if◌then◌else◌}
 use Prim.Native.Nat.{ℕ, zero, suc, ◌+◌}
 use mathlib.Core.Path.{◌≡◌, refl}
 use mathlib.Core.Bool.{Bool, true, false, not}
 use mathlib.Core.List.{List, [], ◌∷◌}
 use mathlib.Core.Option.{none, some}
 use lib.Dec.{T, eqb, eqb-suc-zero}
-use Rattle.rules.specs.Lists.{if◌then◌else◌}
 use Rattle.rules.specs.Numbers.{Answer, FAULT}
 use Rattle.rules.specs.State.{
   Place,

@@ -1,11 +1,11 @@
 -- A call as one rule: the call's own rule behind the refusals that come before it.
+use Rattle.std.specs.Prelude.{if◌then◌else◌}
 use Prim.Native.Nat.{ℕ, ◌<◌}
 use mathlib.Core.Path.{◌≡◌, refl, ap, ◌∙◌}
 use mathlib.Core.Bool.{Bool, true, false}
 use mathlib.Core.List.{List}
 use lib.Dec.{T, ltb, ltb→lt}
 use lib.ListN.{length}
-use Rattle.rules.specs.Lists.{if◌then◌else◌}
 use Rattle.rules.specs.Numbers.{Answer, Refusal, ANSWER, DAMAGED, CORE, Lent, well_lent}
 use Rattle.rules.specs.State.{State, Wiring, wiring}
 use Rattle.rules.specs.Rule.{Rule, refuse, Ran, run}

@@ -1,4 +1,5 @@
 -- Each rule keeps to the items that `touched` lists for its call: no rule reads or writes another, in any state.
+use Rattle.std.specs.Prelude.{if◌then◌else◌}
 use Prim.Native.Nat.{ℕ, zero, suc, ◌<◌}
 use mathlib.Core.Path.{◌≡◌, refl}
 use mathlib.Core.Bool.{Bool, true, false}
@@ -7,7 +8,7 @@ use mathlib.Core.Option.{Option, none, some}
 use lib.Dec.{eqb}
 use lib.ListN.{length}
 use borrow.Author.Tests.{lt-ltb}
-use Rattle.rules.specs.Lists.{if◌then◌else◌, within, member}
+use Rattle.rules.specs.Lists.{within, member}
 use Rattle.rules.specs.Numbers.{Answer, Refusal, TWICE, GUARDS}
 use Rattle.rules.specs.State.{
   Place,

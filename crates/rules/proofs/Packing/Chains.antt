@@ -1,5 +1,6 @@
 -- The queues of a valid state as chains: each process stands in at most one queue and at most once, so the sums of the packing are
 -- what follows a process in its queue, and what is linked behind a queue's first process is the queue.
+use Rattle.std.specs.Prelude.{if◌then◌else◌}
 use Prim.Native.Nat.{ℕ, zero, suc, ◌≤◌, ◌<◌}
 use mathlib.Core.Path.{◌≡◌, refl, ap, ◌∙◌}
 use mathlib.Core.Bool.{Bool, true, false, ◌&&◌}
@@ -8,7 +9,7 @@ use native.Mathlib.Omega.{arith}
 use lib.Dec.{T, eqb, leb, eqb→eq}
 use lib.ListN.{length, get_or}
 use borrow.Author.Tests.{leb-true, leb-false, eq-eqb, ne_eqb}
-use Rattle.rules.specs.Lists.{if◌then◌else◌, total, times, bit, first, follows}
+use Rattle.rules.specs.Lists.{total, times, bit, first, follows}
 use Rattle.rules.specs.State.{Place, running, queued, asleep, ended, Core, queues_of, State}
 use Rattle.rules.specs.Items.{core_of, process_of, no_core}
 use Rattle.rules.specs.Packing.{heads, next_link, if_head, head_link, batch_link, chain}

@@ -1,4 +1,5 @@
 -- The progress of each number, by its place in the list of them.
+use Rattle.std.specs.Prelude.{if◌then◌else◌}
 use Prim.Native.Nat.{ℕ, zero, suc, ◌+◌}
 use mathlib.Core.Path.{◌≡◌, refl, sym, ap, ◌∙◌}
 use mathlib.Core.Bool.{Bool}
@@ -8,7 +9,7 @@ use native.Mathlib.Omega.{arith}
 use native.Mathlib.Nat.{zero-add}
 use lib.ListN.{length, get_or}
 use borrow.Author.Tests.{eq-eqb, ne_eqb}
-use Rattle.rules.specs.Lists.{if◌then◌else◌, from}
+use Rattle.rules.specs.Lists.{from}
 use Rattle.rules.specs.State.{Progress, nothing}
 use Rattle.rules.specs.Packing.{packed_as, numbered, progress_list, progress_numbered}
 

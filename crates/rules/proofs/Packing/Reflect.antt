@@ -1,4 +1,5 @@
 -- What a test says, as a proposition, and what `valid` says of a state.
+use Rattle.std.specs.Prelude.{if◌then◌else◌}
 use Prim.Native.Nat.{ℕ, zero, suc, ◌≤◌, ◌<◌}
 use mathlib.Core.Path.{◌≡◌}
 use mathlib.Core.Bool.{Bool, true, false}
@@ -6,7 +7,7 @@ use mathlib.Core.List.{[]}
 use native.Mathlib.Omega.{arith}
 use lib.Dec.{T, eqb, leb, leb→le, ltb→lt}
 use lib.ListN.{length, get_or}
-use Rattle.rules.specs.Lists.{if◌then◌else◌, within, all, from, times}
+use Rattle.rules.specs.Lists.{within, all, from, times}
 use Rattle.rules.specs.State.{Core, queues_of, Channel, State, Wiring, wiring}
 use Rattle.rules.specs.Items.{core_of, channel_of, no_core, no_channel}
 use Rattle.rules.specs.SetUp.{sizes}

@@ -1,4 +1,5 @@
 -- A channel is read back from its words.
+use Rattle.std.specs.Prelude.{if◌then◌else◌}
 use Prim.Native.Nat.{ℕ, ◌+◌, ◌*◌, ◌/◌, ◌%◌, ◌≤◌, ◌<◌}
 use mathlib.Core.Path.{◌≡◌, refl, ap, ◌∙◌}
 use mathlib.Core.Bool.{Bool, true, false}
@@ -6,7 +7,6 @@ use native.Mathlib.Omega.{arith}
 use lib.Dec.{T, eqb, lit<}
 use lib.ListN.{length, get_or}
 use borrow.Author.Tests.{eq-eqb, ne_eqb}
-use Rattle.rules.specs.Lists.{if◌then◌else◌}
 use Rattle.rules.specs.State.{ChannelWord, nobody, plain, choosing, State, Wiring, wiring}
 use Rattle.rules.specs.Items.{channel_of}
 use Rattle.rules.specs.Layout.{channel_stride, channel_writer, channel_reader, channel_holder, channel_transfers}

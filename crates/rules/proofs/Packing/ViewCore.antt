@@ -1,4 +1,5 @@
 -- A core is read back from its words and the links of the processes.
+use Rattle.std.specs.Prelude.{if◌then◌else◌}
 use Prim.Native.Nat.{ℕ, suc, ◌+◌, ◌-◌, ◌≤◌, ◌<◌}
 use mathlib.Core.Path.{◌≡◌, refl, ap, ◌∙◌}
 use mathlib.Core.Bool.{Bool}
@@ -6,7 +7,7 @@ use mathlib.Core.List.{List, [], ◌∷◌, map}
 use native.Mathlib.Omega.{arith}
 use lib.Dec.{T, lit<}
 use lib.ListN.{length, get_or}
-use Rattle.rules.specs.Lists.{if◌then◌else◌, times, first, follows}
+use Rattle.rules.specs.Lists.{times, first, follows}
 use Rattle.rules.specs.State.{no_task, trigger, wake_up, Work, runs, free, queues_of, State, Wiring, wiring}
 use Rattle.rules.specs.Items.{core_of}
 use Rattle.rules.specs.Layout.{core_runs, core_task, core_task_process, core_first, core_dispatch, core_mark, core_first_head, process_next, process_next_head, links_size}

@@ -1,4 +1,5 @@
 -- A process is read back from its words.
+use Rattle.std.specs.Prelude.{if◌then◌else◌}
 use Prim.Native.Nat.{ℕ, zero, suc, ◌+◌, ◌-◌, ◌≤◌, ◌<◌}
 use mathlib.Core.Path.{◌≡◌, refl, sym, ap, ◌∙◌}
 use mathlib.Core.Bool.{Bool}
@@ -8,7 +9,7 @@ use native.Mathlib.Omega.{arith}
 use lib.Dec.{T, lit<}
 use lib.ListN.{length, get_or, take, drop, length-drop}
 use lib.Seq.{get_or-drop}
-use Rattle.rules.specs.Lists.{if◌then◌else◌, within, all, tabulate, distinct}
+use Rattle.rules.specs.Lists.{within, all, tabulate, distinct}
 use Rattle.rules.specs.State.{
   Place,
   running,

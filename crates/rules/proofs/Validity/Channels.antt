@@ -1,10 +1,11 @@
 -- The channels of a valid state, and what may be written into one.
+use Rattle.std.specs.Prelude.{if◌then◌else◌}
 use Prim.Native.Nat.{ℕ, suc, ◌<◌}
 use mathlib.Core.Path.{◌≡◌, refl, sym, ap, ◌∙◌}
 use mathlib.Core.Bool.{false, true, ◌&&◌}
 use lib.Dec.{T, eqb}
 use lib.ListN.{length, length-map}
-use Rattle.rules.specs.Lists.{if◌then◌else◌, within}
+use Rattle.rules.specs.Lists.{within}
 use Rattle.rules.specs.State.{Way, ChannelWord, Channel, State, Wiring, end_of}
 use Rattle.rules.specs.Items.{channel_word, transfers, put, no_channel, channel_of}
 use Rattle.rules.specs.Soundness.{is_process, own_end, valid_word, valid_channel}

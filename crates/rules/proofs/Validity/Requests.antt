@@ -1,4 +1,5 @@
 -- The requests keep a state valid.
+use Rattle.std.specs.Prelude.{if◌then◌else◌}
 use Prim.Native.Nat.{ℕ, suc, ◌<◌}
 use native.Mathlib.Omega.{arith}
 use mathlib.Core.Path.{◌≡◌, refl, ◌∙◌}
@@ -6,7 +7,7 @@ use mathlib.Core.Bool.{Bool, true, false, ◌&&◌}
 use mathlib.Core.List.{List, [], ◌∷◌}
 use lib.Dec.{T, eqb, eqb→eq, eqb_refl}
 use lib.ListN.{length}
-use Rattle.rules.specs.Lists.{if◌then◌else◌, within, all, member, distinct}
+use Rattle.rules.specs.Lists.{within, all, member, distinct}
 use Rattle.rules.specs.Numbers.{Refusal, CHANNEL, OTHER_END, TWICE}
 use Rattle.rules.specs.State.{
   queued,

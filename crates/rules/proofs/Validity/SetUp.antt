@@ -1,4 +1,5 @@
 -- The state that an accepted set-up builds is valid.
+use Rattle.std.specs.Prelude.{if◌then◌else◌}
 use Prim.Native.Nat.{ℕ, zero, suc, ◌+◌, ◌*◌, ◌-◌, ◌%◌, ◌≤◌, ◌<◌}
 use native.Mathlib.Omega.{arith}
 use native.Mathlib.Decide.{ℕ_discrete}
@@ -10,7 +11,7 @@ use mathlib.Core.Option.{Option, none, some}
 use lib.Dec.{T, eqb, eqb→eq}
 use lib.ListN.{length}
 use borrow.Author.Tests.{eqb-true, eqb-false}
-use Rattle.rules.specs.Lists.{if◌then◌else◌, within, all, total, tabulate, from, bit, times}
+use Rattle.rules.specs.Lists.{within, all, total, tabulate, from, bit, times}
 use Rattle.rules.specs.Numbers.{Refusal, SIZE, PAIRS, ROOM, NAME, SELF}
 use Rattle.rules.specs.State.{Ends, Channel, Wiring, wiring}
 use Rattle.rules.specs.Items.{no_process, process_of}
