@@ -1,10 +1,9 @@
 -- Words that are tested for 0 one after the other, with what was found kept.
-use Prim.Native.Nat.{ℕ, zero, suc, ◌+◌, ◌-◌, ◌<◌, ◌≤◌}
+use Prim.Native.Nat.{ℕ, suc, ◌+◌, ◌-◌, ◌<◌, ◌≤◌}
 use mathlib.Core.Path.{◌≡◌, refl, sym, ap, ◌∙◌}
 use mathlib.Core.Bool.{Bool, true, false, ◌&&◌}
 use mathlib.Core.List.{List}
 use native.Mathlib.Omega.{arith}
-use native.Mathlib.Nat.{zero-add, add-zero}
 use native.Mathlib.Numerals.{add-one}
 use lib.Dec.{eqb}
 use Rattle.fitting.specs.Twin.{word, zeros}
@@ -21,24 +20,11 @@ module _ (t : List ℕ) (a end : ℕ) where
   ends true h = over (zeros t) a end h
   ends false h = refl
 
--- conjunctions in another order
-pub regroup : (a b c : Bool) → (a && (b && c)) ≡ (a && b && c)
-regroup true b c = refl
-regroup false b c = refl
-
 with_true : (b : Bool) → b ≡ (b && true)
 with_true true = refl
 with_true false = refl
 
 module _ (t : List ℕ) where
-  -- words in two parts
-  pub zeros_split : (a m n : ℕ) → zeros t a (m + n) ≡ (zeros t a m && zeros t (a + m) n)
-  zeros_split a zero n = rw (zero-add n, add-zero a)
-  zeros_split a (suc m) n =
-      let e : suc m + n ≡ suc (m + n) = omega arith in
-      let f : a + suc m ≡ suc a + m = omega arith in
-      rw (e, f, zeros_split (suc a) m n) (regroup (eqb (word t a) 0) (zeros t (suc a) m) (zeros t (suc a + m) n))
-
   -- four words
   pub four_zeros : (a : ℕ) → (eqb (word t a) 0 && eqb (word t (a + 1)) 0 && eqb (word t (a + 2)) 0 && eqb (word t (a + 3)) 0) ≡ zeros t a 4
   four_zeros a =
