@@ -1,0 +1,119 @@
+use Rattle.std.proofs.Common.{ℕ, Bool, List, ◌≡◌, refl, sym, ◌∙◌, true, arith, set, length-set}
+use Rattle.rules.specs.Lists.{if◌then◌else◌}
+use Rattle.fitting.specs.Twin.{fresh}
+use Rattle.soundness.specs.Parts.{next_head}
+use Rattle.records.proofs.Tests.{answered}
+use Rattle.soundness.proofs.Outcomes.{all_well, not_well}
+use Rattle.soundness.proofs.Unmet.{unmet_le}
+use Rattle.soundness.proofs.Walks.{met_anew}
+use Rattle.soundness.proofs.Left.{marked_long, marked_unmet, entered_long, queue_falls, no_core_met, no_core_left, core_entered, core_refused, met_next, met_before, next_inside, last_queue, next_queue, ends_badly}
+use Rattle.soundness.proofs.parts_fit.Goals as goal
+
+-- the process that a turn met was not met before, and now is
+meets_one : (r : Bool) (N p : ℕ) (met after : List ℕ) → (r ≡ fresh N met p) × (after ≡ (if r then set met p 2 else met)) → r ≡ true
+    → (fresh N met p ≡ true) × (after ≡ set met p 2)
+meets_one r N p met after e met_it = (sym e.0 ∙ met_it, rw met_it at e.1)
+
+pub check-init : goal.check-init
+check-init c = record { in_range = omega arith; long = refl; left = no_core_met _ _ _ _ }
+
+pub returns-then-k-cores : goal.returns-then-k-cores
+returns-then-k-cores c =
+    let at = c.check in
+    c.rest_fits.ensures ∙ sym (at.invariant.left ∙ no_core_left _ _ _ _ at.k at.met c.if-k-cores.true)
+
+pub queues-init : goal.queues-init
+queues-init c =
+    let a = c.args in
+    let entered = c.enter_core in
+    let e = all_well entered.result entered.new.met _ c.if-not-enter_core.false entered.ensures in
+    record {
+      in_range = omega arith;
+      long = entered_long a.t.now a.processes c.check.k c.check.met _ e ∙ c.check.invariant.long;
+      left = c.check.invariant.left ∙ core_entered _ _ _ _ c.check.k c.check.met _ (omega arith) e;
+    }
+
+pub overflow_add-size : goal.overflow_add-size
+overflow_add-size c =
+    omega (arith, unmet_le c.args.processes c.queues.met)
+
+pub loop-p-smaller : goal.loop-p-smaller
+loop-p-smaller c =
+    let a = c.args in
+    let met = meets_one c.meet.result a.processes c.loop-p.p c.loop-p.met c.meet.new.met c.meet.ensures c.if-not-meet.false in
+    rw met.1 (met_anew a.t.now a.cores a.processes c.loop-p.met c.loop-p.p 2 (omega arith) refl met.0)
+
+pub loop-p-preserved : goal.loop-p-preserved
+loop-p-preserved c =
+    let a = c.args in
+    let l = c.loop-p in
+    let met = meets_one c.meet.result a.processes c.loop-p.p c.loop-p.met c.meet.new.met c.meet.ensures c.if-not-meet.false in
+    let less = met_anew a.t.now a.cores a.processes l.met l.p 2 (omega arith) refl met.0 in
+    rw (met.1, c.process_word-p.ensures)
+    (record {
+      first = λ z. absurd (omega arith);
+      counted = omega arith;
+      long = length-set l.met l.p 2 ∙ l.invariant.long;
+      left = l.invariant.left
+          ∙ met_next _ _ _ _ _ l.met _ l.p l.last l.size (omega arith) c.loop-p-test.true met.0;
+    })
+
+pub queues-smaller : goal.queues-smaller
+queues-smaller c =
+    let a = c.args in
+    let fewer = marked_unmet c.loop-p.met c.queues.queue a.processes (omega arith) in
+    let falls =
+    queue_falls a.t.now _ c.queues.queue _ c.loop-p.p _ c.loop-p.size _ _ _ c.if-queue-eq0.false c.loop-p-test.false
+    c.loop-p.invariant.first c.first_of-p.ensures c.loop-p.invariant.counted fewer in
+    rw c.mark_head.ensures falls
+
+pub queues-preserved : goal.queues-preserved
+queues-preserved c =
+    let l = c.loop-p in
+    let a = c.args in
+    let k = c.check.k in
+    let queue = c.queues.queue in
+    let some : next_head a.t.now a.cores k queue ≡ 0 → ⊥ = λ z. c.if-queue-eq0.false (c.next_head-queue.ensures ∙ z) in
+    let ends =
+    answered _ _ _ c.queue_ends.ensures c.if-not-queue_ends.false in
+    rw (c.mark_head.ensures, c.next_head-queue.ensures)
+    (record {
+      in_range = next_inside a.t.now a.cores a.processes a.channels k l.met queue l.p l.last l.size ends some;
+      long = marked_long l.met queue a.processes ∙ l.invariant.long;
+      left = l.invariant.left
+          ∙ next_queue _ _ _ _ k l.met queue l.p l.last l.size (omega arith) c.loop-p-test.false ends some;
+    })
+
+pub check-preserved : goal.check-preserved
+check-preserved c =
+    let l = c.loop-p in
+    let a = c.args in
+    let ends =
+    answered _ _ _ c.queue_ends.ensures c.if-not-queue_ends.false in
+    let none = sym c.next_head-queue.ensures ∙ c.if-queue-eq0.true in
+    rw c.mark_head.ensures
+    (record {
+      in_range = omega arith;
+      long = marked_long l.met c.queues.queue a.processes ∙ l.invariant.long;
+      left = l.invariant.left
+          ∙ last_queue _ _ _ _ _ l.met _ l.p l.last l.size c.loop-p-test.false ends none;
+    })
+
+pub returns-then-not-enter_core : goal.returns-then-not-enter_core
+returns-then-not-enter_core c =
+    let at = c.check in
+    let entered = c.enter_core in
+    let flawed = not_well entered.result entered.new.met _ c.if-not-enter_core.true entered.ensures in
+    sym (at.invariant.left ∙ core_refused _ _ _ _ at.k at.met (omega arith) flawed)
+
+pub returns-then-not-meet : goal.returns-then-not-meet
+returns-then-not-meet c =
+    let l = c.loop-p in
+    let stale = answered _ _ _ c.meet.ensures.0 c.if-not-meet.true in
+    sym (l.invariant.left ∙ met_before _ _ _ _ _ l.met _ l.p l.last l.size c.loop-p-test.true stale)
+
+pub returns-then-not-queue_ends : goal.returns-then-not-queue_ends
+returns-then-not-queue_ends c =
+    let l = c.loop-p in
+    let flawed = answered _ _ _ c.queue_ends.ensures c.if-not-queue_ends.true in
+    sym (l.invariant.left ∙ ends_badly _ _ _ _ _ l.met _ l.p l.last l.size c.loop-p-test.false flawed)
