@@ -1,5 +1,4 @@
-use Rattle.std.proofs.Common.{ℕ, Bool, List, ◌≡◌, refl, sym, ◌∙◌, true, arith, set, length-set}
-use Rattle.rules.specs.Lists.{if◌then◌else◌}
+use Rattle.std.proofs.Common.{ℕ, Bool, List, ◌≡◌, refl, sym, ◌∙◌, true, arith, set, length-set, if◌then◌else◌}
 use Rattle.fitting.specs.Twin.{fresh}
 use Rattle.soundness.specs.Parts.{next_head}
 use Rattle.records.proofs.Tests.{answered}
