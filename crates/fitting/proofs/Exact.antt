@@ -9,7 +9,6 @@ use lib.Dec.{T, eqb, leb, eqb→eq}
 use lib.ListN.{length, get_or, set, length-set}
 use lib.Seq.{get_or-set_same, get_or-set_other}
 use borrow.Author.Tests.{eqb-true, eqb-false, leb-true, leb-false, eq-eqb, ne_eqb}
-use Rattle.rules.specs.Layout.{room}
 use Rattle.rules.specs.Lists.{within, bit}
 use Rattle.rules.proofs.Tests.{both, together, within_means}
 use Rattle.fitting.proofs.Tests.{equal_holds, within_holds}

@@ -1,5 +1,5 @@
 -- A table that fits holds the words of the state that is read out of it.
-use Prim.Native.Nat.{ℕ, zero, suc, ◌+◌, ◌-◌, ◌≤◌, ◌<◌}
+use Prim.Native.Nat.{ℕ, zero, suc, ◌-◌, ◌≤◌, ◌<◌}
 use mathlib.Core.Path.{◌≡◌, refl, sym, ap, ◌∙◌, subst}
 use mathlib.Core.Bool.{Bool, true, false}
 use mathlib.Core.List.{List, [], ◌∷◌, ◌++◌}
@@ -38,7 +38,7 @@ use Rattle.rules.proofs.Tabulate.{tabulate_at}
 use Rattle.rules.proofs.Packing.Reflect.{Valid, valid_means}
 use Rattle.rules.proofs.Sums.{positive_term}
 use Rattle.rules.proofs.Packing.Chains.{next_follows, batch_follows}
-use Rattle.rules.proofs.Packing.Reading.{state_words, link_words, queue_words}
+use Rattle.rules.proofs.Packing.Reading.{state_words, link_words}
 use Rattle.fitting.proofs.Tests.{zero_block}
 use Rattle.fitting.proofs.Walks.{next_of, batch_of, batch_behind}
 use Rattle.fitting.proofs.CoreWalks.{chain_first, heads_of, heads_are}

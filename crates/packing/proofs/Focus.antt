@@ -30,8 +30,8 @@ written d a v w =
     }
 
 -- one word of a list after another was written
-get_d_set : (t : List ℕ) (a v i x : ℕ) → a < length t → get_or t i 0 ≡ x → get_or (set t a v) i 0 ≡ (if eqb i a then v else x)
-get_d_set t a v i x inside e = cases (eqb i a) refl
+get_or_set : (t : List ℕ) (a v i x : ℕ) → a < length t → get_or t i 0 ≡ x → get_or (set t a v) i 0 ≡ (if eqb i a then v else x)
+get_or_set t a v i x inside e = cases (eqb i a) refl
   where
     cases : (b : Bool) → eqb i a ≡ b → get_or (set t a v) i 0 ≡ (if b then v else x)
     cases true q = ap (λ (j : ℕ). get_or (set t a v) j 0) (eqb-true i a q) ∙ get_or-set_same t a v 0 inside
@@ -42,10 +42,10 @@ pub holds_set : (d : Dims) (w : Words) (t : List ℕ) (a v : ℕ) → Holds d w 
 holds_set d w t a v h inside =
     record {
       size = length-set t a v ∙ h.size;
-      header = λ f b. get_d_set t a v f (w.header f) inside (h.header f b);
-      core = λ k f b b'. get_d_set t a v (core_at k f) (w.core k f) inside (h.core k f b b');
-      process = λ p f l b b'. get_d_set t a v (process_at d.K p f) (w.process p f) inside (h.process p f l b b');
-      channel = λ c f l b b'. get_d_set t a v (channel_at d.K d.N c f) (w.channel c f) inside (h.channel c f l b b');
+      header = λ f b. get_or_set t a v f (w.header f) inside (h.header f b);
+      core = λ k f b b'. get_or_set t a v (core_at k f) (w.core k f) inside (h.core k f b b');
+      process = λ p f l b b'. get_or_set t a v (process_at d.K p f) (w.process p f) inside (h.process p f l b b');
+      channel = λ c f l b b'. get_or_set t a v (channel_at d.K d.N c f) (w.channel c f) inside (h.channel c f l b b');
     }
 
 -- Several writes
@@ -151,7 +151,7 @@ block_set j g v l W i f a b inside number place back = cases (eqb i j) refl
         → (if eqb a b then v else (if x then get_or l f 0 else W i f)) ≡ (if x then get_or (set l g v) f 0 else W i f)
     cases true e =
         ap (λ (x : Bool). if x then v else get_or l f 0) (same_test a b f g place (back (eqb-true i j e)))
-        ∙ sym (get_d_set l g v f (get_or l f 0) inside refl)
+        ∙ sym (get_or_set l g v f (get_or l f 0) inside refl)
     cases false e = ap (λ (x : Bool). if x then v else W i f) (ne_eqb a b (λ q. eqb-false i j e (number q)))
 
 module _ (d : Dims) (w : Words) (j f v : ℕ) (l : List ℕ) (inside : f < length l) where

@@ -30,7 +30,7 @@ use Rattle.rules.specs.State.{
   Core,
 }
 use Rattle.rules.specs.Items.{core, progress}
-use Rattle.rules.specs.Rule.{Rule, refuse, the, ◌>>=◌, ◌>>◌}
+use Rattle.rules.specs.Rule.{Rule, refuse, the, ◌>>=◌}
 use Rattle.rules.specs.Steps.{look_step, park_step, copy_step, clear_step, wake_step}
 use Rattle.rules.specs.Choice.{
   enable_look_step,

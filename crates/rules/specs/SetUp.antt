@@ -1,5 +1,5 @@
 -- Document 01, "Set-up": the state that it builds, and when it is refused.
-use Rattle.std.specs.Prelude.{ℕ, ◌+◌, ◌*◌, ◌-◌, ◌%◌, Bool, false, ◌&&◌, List, [], ◌∷◌, map, eqb, length, if◌then◌else◌}
+use Rattle.std.specs.Prelude.{ℕ, ◌*◌, ◌-◌, ◌%◌, Bool, false, ◌&&◌, List, [], ◌∷◌, map, eqb, length, if◌then◌else◌}
 use Rattle.std.proofs.Math.Option.{Option, none, some}
 use Rattle.rules.specs.Lists.{within, tabulate, from}
 use Rattle.rules.specs.Numbers.{Refusal, SIZE, PAIRS, ROOM, NAME, SELF}

@@ -1,5 +1,5 @@
 -- A slice of three words is what is written at its three places.
-use Rattle.std.proofs.Common.{ℕ, ◌≡◌, refl, ap, true, false, List, [], ◌∷◌, arith, ltb, eqb→eq, length, set, rules, lt-ltb, le-ltb}
+use Rattle.std.proofs.Common.{ℕ, ◌≡◌, refl, ap, true, false, List, [], ◌∷◌, arith, ltb, eqb→eq, length, set, lt-ltb, le-ltb}
 use Rattle.rules.specs.Numbers.{lends, answer_size}
 use Rattle.answers.proofs.tell.Goals as goal
 

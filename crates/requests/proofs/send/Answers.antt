@@ -1,5 +1,5 @@
 -- The value, the stage and the channel are written after the tests of the rule.
-use Rattle.std.proofs.Common.{arith, rules}
+use Rattle.std.proofs.Common.{rules}
 use Rattle.requests.proofs.Meets.{idle_process, ends_fit, send_refused, send_does}
 use Rattle.requests.proofs.send.Goals as goal
 

@@ -1,4 +1,4 @@
-use Rattle.std.proofs.Common.{◌≡◌, refl, sym, false, arith, get_or}
+use Rattle.std.proofs.Common.{◌≡◌, refl, sym, arith, get_or}
 use Rattle.requests.proofs.Guards.{not_yet, stands}
 use Rattle.requests.proofs.stands_before.Goals as goal
 

@@ -1,5 +1,5 @@
 -- The parts together are the packing.
-use Rattle.std.proofs.Common.{◌≡◌, ◌∙◌, arith}
+use Rattle.std.proofs.Common.{◌≡◌, ◌∙◌}
 use Rattle.set_up.specs.Filled.{in_batches}
 use Rattle.set_up.proofs.Filling.{written, queues_fit, set_up_packs}
 use Rattle.set_up.proofs.fill.Goals as goal
