@@ -1,4 +1,5 @@
-# Fontarisca: the two commands are `make run` and `make test`. Everything that is made goes below target/, but for docs/BENCH.md (make bench).
+# Fontarisca: the two commands are `make run` and `make test`. Everything that is made goes below target/ and crates/*/out/, but for
+# docs/BENCH.md (make bench).
 .DEFAULT_GOAL := help
 CFLAGS := -std=c11 -O2 -Wall -Wextra -Werror -Iinclude -Ihost
 SANITIZE := -fsanitize=address,undefined -fno-sanitize-recover=all -g
@@ -34,7 +35,7 @@ header: ## compile the header as C and as C++, and compare its numbers with docs
 	host/test-header
 
 $(LIBRARY): $(shell find crates -path '*/out' -prune -o \( -name '*.rt' -o -name '*.antt' \) -print) crates.txt
-	rt lib fontarisca_c
+	cd crates/fontarisca_c && rt lib
 	@mkdir -p $(@D)
 	cp crates/fontarisca_c/out/libfontarisca_c.a $@
 
@@ -59,4 +60,4 @@ bench: target/bench/libunchecked.a ## time the library, plain Rust and the model
 	target/rust/timed/bench --page host/bench.template docs/BENCH.md
 
 clean: ## remove what was made
-	rm -rf target
+	rm -rf target crates/*/out
