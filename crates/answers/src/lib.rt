@@ -2,148 +2,96 @@
 #![tactic(auto)]
 
 ghost use Rattle.std.specs.Prelude.{◌≡◌, T};
-ghost use Rattle.rules.specs.Numbers.{TAKEN, MOVED, SLEPT, IDLE, GO, SENT, GOT, CHOSE, yes_with, lends, well_lent};
-ghost use Rattle.answers.specs.Four.{four, told};
-
-pub const SIZE: u32 = 20;
-
-pub const PAIRS: u32 = 21;
-
-pub const ROOM: u32 = 22;
-
-pub const NAME: u32 = 23;
-
-pub const SELF: u32 = 24;
-
-pub const ANSWER: u32 = 25;
-
-pub const DAMAGED: u32 = 26;
-
-pub const CORE: u32 = 27;
-
-pub const BUSY: u32 = 28;
-
-pub const AWAITED: u32 = 29;
-
-pub const GUARDS: u32 = 30;
-
-pub const CHANNEL: u32 = 31;
-
-pub const OTHER_END: u32 = 32;
-
-pub const TWICE: u32 = 33;
-
-pub const FAULT: u32 = 34;
+ghost use Rattle.rules.specs.Numbers.{reply, refusal_number, number_of, written, lends, well_lent};
+ghost use Rattle.answers.specs.Said.{answered, because, said, told};
 
 // How many words are lent for the answer.
 pub const ANSWER_SIZE: usize = 3;
 
-// The number, and the words process, channel, value.
-#[derive(Clone, Copy)]
-pub struct Reply {
-    pub number: u32,
-    pub process: u32,
-    pub channel: u32,
-    pub value: u32,
+// What an accepted call of a core answers: processes, channels and values.
+#[derive(Clone, Copy, Debug, PartialEq, Eq)]
+pub enum Answer {
+    Taken(u32, u32),
+    Moved,
+    Slept(u32),
+    Idle,
+    Go(u32),
+    Sent(u32, u32),
+    Got(u32, u32, u32),
+    Chose(u32, u32),
 }
 
-pub fn taken(p: u32, c: u32) -> Reply
-    ensures { result ≡ four (yes_with (TAKEN p c)) }
-{
-    Reply {
-        number: 1,
-        process: p,
-        channel: c,
-        value: 0,
+// Why a call is refused; each has its number.
+#[derive(Clone, Copy, Debug, PartialEq, Eq)]
+pub enum Refusal {
+    Size = 20,
+    Pairs = 21,
+    Room = 22,
+    Name = 23,
+    SameProcess = 24,
+    Answer = 25,
+    Damaged = 26,
+    Core = 27,
+    Busy = 28,
+    Awaited = 29,
+    Guards = 30,
+    Channel = 31,
+    OtherEnd = 32,
+    Twice = 33,
+    Fault = 34,
+}
+
+pub type Reply = Result<Answer, Refusal>;
+
+impl Answer {
+    // The number returned.
+    pub fn number(self) -> u32
+        ensures { result ≡ (reply (answered self)).number }
+    {
+        match self {
+            Answer::Taken(_, _) => 1,
+            Answer::Moved => 2,
+            Answer::Slept(_) => 3,
+            Answer::Idle => 4,
+            Answer::Go(_) => 5,
+            Answer::Sent(_, _) => 6,
+            Answer::Got(_, _, _) => 7,
+            Answer::Chose(_, _) => 8,
+        }
+    }
+
+    // The answer words: process, channel, value; one that doesn't apply is 0.
+    pub fn words(self) -> [u32; ANSWER_SIZE]
+        ensures { lends result ≡ written (answered self) }
+    {
+        match self {
+            Answer::Taken(p, c) => [p, c, 0],
+            Answer::Moved => [0, 0, 0],
+            Answer::Slept(p) => [p, 0, 0],
+            Answer::Idle => [0, 0, 0],
+            Answer::Go(p) => [p, 0, 0],
+            Answer::Sent(p, c) => [p, c, 0],
+            Answer::Got(p, c, v) => [p, c, v],
+            Answer::Chose(p, c) => [p, c, 0],
+        }
     }
 }
 
-pub fn moved() -> Reply
-    ensures { result ≡ four (yes_with MOVED) }
-{
-    Reply {
-        number: 2,
-        process: 0,
-        channel: 0,
-        value: 0,
+impl From<Refusal> for u32 {
+    ghost from_gives = { λ why n. n ≡ refusal_number (because why) };
+
+    fn from(why: Refusal) -> u32 {
+        why as u32
     }
 }
 
-pub fn slept(p: u32) -> Reply
-    ensures { result ≡ four (yes_with (SLEPT p)) }
+// The number that a call returns.
+pub fn number(r: Reply) -> u32
+    ensures { result ≡ number_of (said r) }
 {
-    Reply {
-        number: 3,
-        process: p,
-        channel: 0,
-        value: 0,
-    }
-}
-
-pub fn idle() -> Reply
-    ensures { result ≡ four (yes_with IDLE) }
-{
-    Reply {
-        number: 4,
-        process: 0,
-        channel: 0,
-        value: 0,
-    }
-}
-
-pub fn go(p: u32) -> Reply
-    ensures { result ≡ four (yes_with (GO p)) }
-{
-    Reply {
-        number: 5,
-        process: p,
-        channel: 0,
-        value: 0,
-    }
-}
-
-pub fn sent(p: u32, c: u32) -> Reply
-    ensures { result ≡ four (yes_with (SENT p c)) }
-{
-    Reply {
-        number: 6,
-        process: p,
-        channel: c,
-        value: 0,
-    }
-}
-
-pub fn got(p: u32, c: u32, v: u32) -> Reply
-    ensures { result ≡ four (yes_with (GOT p c v)) }
-{
-    Reply {
-        number: 7,
-        process: p,
-        channel: c,
-        value: v,
-    }
-}
-
-pub fn chose(p: u32, c: u32) -> Reply
-    ensures { result ≡ four (yes_with (CHOSE p c)) }
-{
-    Reply {
-        number: 8,
-        process: p,
-        channel: c,
-        value: 0,
-    }
-}
-
-// A refusal has a number from 20 up and no words.
-pub fn refused(number: u32) -> Reply
-    ensures { result ≡ record { number = number; process = 0; channel = 0; value = 0 } }
-{
-    Reply {
-        number: number,
-        process: 0,
-        channel: 0,
-        value: 0,
+    match r {
+        Ok(answer) => answer.number(),
+        Err(why) => u32::from(why),
     }
 }
 
@@ -157,11 +105,9 @@ pub fn lent_well(answer: &[u32]) -> bool
 // An accepted call's words are written; a refused one writes nothing.
 pub fn tell(answer: &mut [u32], r: Reply)
     requires { T (well_lent (lends answer.old)) }
-    ensures { lends answer.new ≡ told r (lends answer.old) }
+    ensures { lends answer.new ≡ told (said r) (lends answer.old) }
 {
-    if r.number < 20 {
-        answer[0] = r.process;
-        answer[1] = r.channel;
-        answer[2] = r.value;
+    if let Ok(given) = r {
+        answer.copy_from_slice(&given.words());
     }
 }

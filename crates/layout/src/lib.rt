@@ -1,6 +1,8 @@
 // The layout of a table (docs/PACKING.md): the names and numbers of crates/rules/specs/Layout.antt, for the code.
 #![tactic(auto)]
 
+pub mod progress; // what a process has in hand
+
 // How long the header is, and the records of a core, a process and a channel.
 pub const HEADER_SIZE: usize = 8;
 
@@ -96,65 +98,19 @@ pub const CHANNEL_TRANSFERS: usize = 3;
 
 pub const CHANNEL_SPARE: usize = 4;
 
-// The numbers that places, tasks and progress go by.
-pub const PLACE_RUNNING: u32 = 1;
+// Where a process is.
+#[derive(Clone, Copy, Debug, PartialEq, Eq)]
+pub enum Place {
+    Running = 1,
+    Queued = 2,
+    Asleep = 3,
+    Ended = 4,
+}
 
-pub const PLACE_QUEUED: u32 = 2;
-
-pub const PLACE_ASLEEP: u32 = 3;
-
-pub const PLACE_ENDED: u32 = 4;
-
-pub const TASK_NONE: u32 = 0;
-
-pub const TASK_TRIGGER: u32 = 1;
-
-pub const TASK_WAKE: u32 = 2;
-
-pub const AT_NOTHING: u32 = 0;
-
-pub const AT_SEND_LOOK: u32 = 1;
-
-pub const AT_SEND_PARK: u32 = 2;
-
-pub const AT_SEND_COPY: u32 = 3;
-
-pub const AT_SEND_CLEAR: u32 = 4;
-
-pub const AT_SEND_WAKE: u32 = 5;
-
-pub const AT_RECEIVE_LOOK: u32 = 6;
-
-pub const AT_RECEIVE_PARK: u32 = 7;
-
-pub const AT_RECEIVE_COPY: u32 = 8;
-
-pub const AT_RECEIVE_CLEAR: u32 = 9;
-
-pub const AT_RECEIVE_WAKE: u32 = 10;
-
-pub const AT_ENABLE_LOOK: u32 = 11;
-
-pub const AT_RAISE: u32 = 12;
-
-pub const AT_PLACE_NAME: u32 = 13;
-
-pub const AT_READY_FROM_LOOK: u32 = 14;
-
-pub const AT_READY_FROM_PLACE: u32 = 15;
-
-pub const AT_WAIT: u32 = 16;
-
-pub const AT_DISABLE: u32 = 17;
-
-pub const AT_LOWER: u32 = 18;
-
-pub const AT_FINISH: u32 = 19;
-
-pub const DUE_GO: u32 = 20;
-
-pub const DUE_SENT: u32 = 21;
-
-pub const DUE_GOT: u32 = 22;
-
-pub const DUE_CHOSE: u32 = 23;
+// The kinds of kernel task.
+#[derive(Clone, Copy, Debug, PartialEq, Eq)]
+pub enum TaskKind {
+    None = 0,
+    Trigger = 1,
+    Wake = 2,
+}

@@ -1,19 +1,23 @@
 -- What the code of a step promises: on a sound table it does what its rule says, no more and no less.
-use Rattle.std.specs.Prelude.{ℕ, ◌+◌, ◌-◌, ◌<◌, ◌≡◌, List, T}
+use Rattle.std.specs.Prelude.{ℕ, ◌<◌, ◌≡◌, List, T, Result}
 use Rattle.rules.specs.Numbers.{Answer, yes_with, no_because}
-use Rattle.rules.specs.State.{Way, sending, receiving, Stage, doing, runs}
+use Rattle.rules.specs.State.{Stage, doing, runs}
 use Rattle.rules.specs.Items.{core_of, process_of}
 use Rattle.rules.specs.Rule.{Rule, Ran, accepted, refused, run}
-use Rattle.rules.specs.Layout.{at_send_look, at_receive_look}
 use Rattle.rules.specs.Packing.{pack, view, k_of, n_of}
 use Rattle.rules.specs.Soundness.{sound}
-use Rattle.answers.specs.Four.{four}
-use Rattle.answers.specs.declared.Reply.{Reply}
+use Rattle.answers.specs.Said.{said}
+use Rattle.answers.specs.declared.Answer as answer
+use Rattle.answers.specs.declared.Refusal as refusal
+
+-- what the code replies
+abbrev pub Reply : Type 0
+Reply = Result answer.Answer refusal.Refusal
 
 -- the reply r and the table u are what a rule came to, from the table t
 abbrev pub Comes : Ran Answer → List ℕ → Reply → List ℕ → Type 0
-Comes (accepted a s) t r u = (r ≡ four (yes_with a)) × (u ≡ pack s)
-Comes (refused why) t r u = (r ≡ four (no_because why)) × (u ≡ t)
+Comes (accepted a s) t r u = (said r ≡ yes_with a) × (u ≡ pack s)
+Comes (refused why) t r u = (said r ≡ no_because why) × (u ≡ t)
 
 abbrev pub Does : Rule Answer → List ℕ → Reply → List ℕ → Type 0
 Does rule t r u = Comes (run rule (view t)) t r u
@@ -30,8 +34,3 @@ pub record At (t : List ℕ) (cores processes k p : ℕ) (x : Stage) : Type 0 wh
   pub card : Card t cores processes k
   pub runs : (core_of (view t) k).work ≡ runs p
   pub stage : (process_of (view t) p).progress ≡ doing x
-
--- the number of a stage of receive, given by that of send: they stand in the same order
-abbrev pub of_way : Way → ℕ → ℕ
-of_way sending n = n
-of_way receiving n = n + (at_receive_look - at_send_look)

@@ -1,3 +1,3 @@
 pub mod Does
 pub mod Shared
-pub mod Ways
+pub mod Tasks

@@ -1,107 +1,121 @@
 // What several steps share: a stage, a task, falling asleep, an outcome due.
 #![tactic(auto)]
 
-ghost use Rattle.std.specs.Prelude.{◌≡◌, ◌≤◌, get_or, set};
+ghost use Rattle.std.specs.Prelude.{◌≡◌, get_or, set};
 ghost use Rattle.rules.specs.Numbers.{MOVED, SLEPT, yes_with};
-ghost use Rattle.rules.specs.Layout.{process_at, process_progress, process_data, at_send_wake};
-ghost use Rattle.answers.specs.Four.{four};
+ghost use Rattle.rules.specs.Layout.{process_at, process_progress, process_data};
+ghost use Rattle.layout.specs.Numbers.{number_of, outcome_number};
+ghost use Rattle.answers.specs.Said.{said};
 ghost use Rattle.table.specs.Has.{HasCore, HasProcess};
-ghost use Rattle.parts.specs.Does.{of_way};
-ghost use Rattle.parts.specs.Ways.{which};
+ghost use Rattle.parts.specs.Tasks.{kind_of, subject_of};
 ghost use Rattle.parts.specs.Shared.{task_table, asleep_table, cleared, due_table, reported};
 
-use answers::Reply;
+use answers::{Answer, Reply};
+use layout::progress::{Outcome, Progress};
+use layout::{Place, TaskKind};
+use table::{Core, Process, Record};
 
-// The request of process p goes on at the stage of number n.
-pub fn move_on(t: &mut [u32], cores: usize, p: u32, n: u32) -> Reply
-    requires { HasProcess t.old cores p }
-    ensures table { t.new ≡ set t.old (process_at cores p process_progress) n }
-    ensures reply { result ≡ four (yes_with MOVED) }
+// The request of process p goes on there.
+pub fn move_on(t: &mut [u32], p: Process, progress: Progress) -> Reply
+    requires { HasProcess t.old p.sizes.cores p.number }
+    ensures table { t.new ≡ set t.old (process_at p.sizes.cores p.number process_progress) (number_of progress) }
+    ensures reply { said result ≡ yes_with MOVED }
 {
-    table::set_process_word(t, cores, p, layout::PROCESS_PROGRESS, n);
-    answers::moved()
+    p.set(t, layout::PROCESS_PROGRESS, progress.number());
+    Ok(Answer::Moved)
 }
 
-// Core k runs nothing and has a task, given by its number, of process q.
-pub fn has_task(t: &mut [u32], k: usize, task: u32, q: u32)
-    requires { HasCore t.old k }
-    ensures { t.new ≡ task_table t.old k task q }
-{
-    table::set_core_word(t, k, layout::CORE_RUNS, 0);
-    table::set_core_word(t, k, layout::CORE_TASK, task);
-    table::set_core_word(t, k, layout::CORE_TASK_PROCESS, q);
+// A kernel task: none, or to trigger or wake a process.
+#[derive(Clone, Copy, Debug, PartialEq, Eq)]
+pub enum Task {
+    None,
+    Trigger(u32),
+    Wake(u32),
 }
 
-// Process p of core k falls asleep, and the core has a task.
-pub fn falls_asleep(t: &mut [u32], cores: usize, k: usize, p: u32, task: u32, q: u32) -> Reply
-    requires process { HasProcess t.old cores p }
-    requires core { HasCore t.old k }
-    ensures table { t.new ≡ asleep_table t.old cores k p task q }
-    ensures reply { result ≡ four (yes_with (SLEPT p)) }
+impl Task {
+    fn kind(self) -> u32
+        ensures { result ≡ kind_of self }
+    {
+        match self {
+            Task::None => TaskKind::None as u32,
+            Task::Trigger(_) => TaskKind::Trigger as u32,
+            Task::Wake(_) => TaskKind::Wake as u32,
+        }
+    }
+
+    // The process that it is about; 0 where there is none.
+    fn subject(self) -> u32
+        ensures { result ≡ subject_of self }
+    {
+        match self {
+            Task::None => 0,
+            Task::Trigger(q) => q,
+            Task::Wake(q) => q,
+        }
+    }
+}
+
+// The core runs nothing and has a task.
+pub fn has_task(t: &mut [u32], core: Core, task: Task)
+    requires { HasCore t.old core.0 }
+    ensures { t.new ≡ task_table t.old core.0 (kind_of task) (subject_of task) }
 {
-    table::set_process_word(t, cores, p, layout::PROCESS_PLACE, layout::PLACE_ASLEEP);
-    has_task(t, k, task, q);
-    answers::slept(p)
+    core.set(t, layout::CORE_RUNS, 0);
+    core.set(t, layout::CORE_TASK, task.kind());
+    core.set(t, layout::CORE_TASK_PROCESS, task.subject());
+}
+
+// Process p of the core falls asleep, and the core has a task.
+pub fn falls_asleep(t: &mut [u32], core: Core, p: Process, task: Task) -> Reply
+    requires process { HasProcess t.old p.sizes.cores p.number }
+    requires core { HasCore t.old core.0 }
+    ensures table { t.new ≡ asleep_table t.old p.sizes.cores core.0 p.number (kind_of task) (subject_of task) }
+    ensures reply { said result ≡ yes_with (SLEPT p.number) }
+{
+    p.set(t, layout::PROCESS_PLACE, Place::Asleep as u32);
+    has_task(t, core, task);
+    Ok(Answer::Slept(p.number))
 }
 
 // Process p has nothing in hand.
-pub fn clear_progress(t: &mut [u32], cores: usize, p: u32)
-    requires { HasProcess t.old cores p }
-    ensures { t.new ≡ cleared t.old cores p }
+#[tactic(auto, unfolding(crate::specs::Shared::cleared))]
+pub fn clear_progress(t: &mut [u32], p: Process)
+    requires { HasProcess t.old p.sizes.cores p.number }
+    ensures { t.new ≡ cleared t.old p.sizes.cores p.number }
 {
-    table::zero_process_words(t, cores, p, layout::PROCESS_PROGRESS, layout::PROGRESS_SIZE);
+    p.zero(t, layout::PROCESS_PROGRESS, layout::PROGRESS_SIZE);
 }
 
-// Process p has an outcome due, of this number and this channel.
-pub fn set_due(t: &mut [u32], cores: usize, p: u32, number: u32, c: u32)
-    requires { HasProcess t.old cores p }
-    ensures { t.new ≡ due_table t.old cores p number c }
+// Process p has an outcome due, at channel c.
+pub fn set_due(t: &mut [u32], p: Process, outcome: Outcome, c: u32)
+    requires { HasProcess t.old p.sizes.cores p.number }
+    ensures { t.new ≡ due_table t.old p.sizes.cores p.number (outcome_number outcome) c }
 {
-    clear_progress(t, cores, p);
-    table::set_process_word(t, cores, p, layout::PROCESS_PROGRESS, number);
-    table::set_process_word(t, cores, p, layout::PROCESS_CHANNEL, c);
+    clear_progress(t, p);
+    p.set(t, layout::PROCESS_PROGRESS, outcome.number());
+    p.set(t, layout::PROCESS_CHANNEL, c);
 }
 
-// The end of a channel that a request is made at.
-#[derive(Clone, Copy)]
-pub enum Way {
-    Sending,
-    Receiving,
-}
-
-// The number of a stage of receive, given by that of send: they stand in the same order.
-pub fn numbered(way: Way, n: u32) -> u32
-    requires { n ≤ at_send_wake }
-    ensures { result ≡ of_way (which way) n }
+// The answer to an outcome of process p, with channel c and data word v.
+fn answer_to(outcome: Outcome, p: u32, c: u32, v: u32) -> Reply
+    ensures { said result ≡ yes_with (reported (outcome_number outcome) p c v) }
 {
-    match way {
-        Way::Sending => n,
-        Way::Receiving => n + (layout::AT_RECEIVE_LOOK - layout::AT_SEND_LOOK),
-    }
-}
-
-// The answer to an outcome, given by its number, of process p, channel c and data word v.
-fn answer_to(number: u32, p: u32, c: u32, v: u32) -> Reply
-    ensures { result ≡ four (yes_with (reported number p c v)) }
-{
-    if number == layout::DUE_GO {
-        answers::go(p)
-    } else if number == layout::DUE_SENT {
-        answers::sent(p, c)
-    } else if number == layout::DUE_GOT {
-        answers::got(p, c, v)
-    } else {
-        answers::chose(p, c)
-    }
+    Ok(match outcome {
+        Outcome::Go => Answer::Go(p),
+        Outcome::Sent => Answer::Sent(p, c),
+        Outcome::Got => Answer::Got(p, c, v),
+        Outcome::Chose => Answer::Chose(p, c),
+    })
 }
 
 // Process p has come to an outcome: it answers, and has nothing in hand.
-pub fn reports(t: &mut [u32], cores: usize, p: u32, number: u32, c: u32) -> Reply
-    requires { HasProcess t.old cores p }
-    ensures table { t.new ≡ cleared t.old cores p }
-    ensures reply { result ≡ four (yes_with (reported number p c (get_or t.old (process_at cores p process_data) 0))) }
+pub fn reports(t: &mut [u32], p: Process, outcome: Outcome, c: u32) -> Reply
+    requires { HasProcess t.old p.sizes.cores p.number }
+    ensures table { t.new ≡ cleared t.old p.sizes.cores p.number }
+    ensures reply { said result ≡ yes_with (reported (outcome_number outcome) p.number c (get_or t.old (process_at p.sizes.cores p.number process_data) 0)) }
 {
-    let v = table::process_word(t, cores, p, layout::PROCESS_DATA);
-    clear_progress(t, cores, p);
-    answer_to(number, p, c, v)
+    let v = p.word(t, layout::PROCESS_DATA);
+    clear_progress(t, p);
+    answer_to(outcome, p.number, c, v)
 }

@@ -8,7 +8,7 @@ ghost use Rattle.rules.specs.Packing.{word_number, word_numbered};
 ghost use Rattle.words.specs.Meaning.{meaning};
 
 // Who stands in a channel word.
-#[derive(Clone, Copy)]
+#[derive(Clone, Copy, Debug, PartialEq, Eq)]
 pub enum Holder {
     Nobody,
     Plain(u32),
@@ -45,17 +45,18 @@ pub fn choosing_bit(word: u32) -> u32
     word & 1
 }
 
-// Who stands in a channel word.
-pub fn who_stands(word: u32) -> Holder
-    ensures { meaning result ≡ word_numbered word }
-{
-    if word == 0 {
-        return Holder::Nobody;
-    }
-    let p = named(word);
-    if choosing_bit(word) == 0 {
-        Holder::Plain(p)
-    } else {
-        Holder::Choosing(p)
+impl From<u32> for Holder {
+    ghost from_gives = { λ word holder. meaning holder ≡ word_numbered word };
+
+    fn from(word: u32) -> Holder {
+        if word == 0 {
+            return Holder::Nobody;
+        }
+        let p = named(word);
+        if choosing_bit(word) == 0 {
+            Holder::Plain(p)
+        } else {
+            Holder::Choosing(p)
+        }
     }
 }
