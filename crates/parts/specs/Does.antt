@@ -1,26 +1,19 @@
 -- What the code of a step promises: on a sound table it does what its rule says, no more and no less.
-use Rattle.std.specs.Prelude.{ℕ, ◌<◌, ◌≡◌, List, T, Result}
-use Rattle.rules.specs.Numbers.{Answer, yes_with, no_because}
+use Rattle.std.specs.Prelude.{ℕ, ◌<◌, ◌≡◌, List, T}
+use Rattle.rules.specs.Numbers.{Answer, Said, yes_with, no_because}
 use Rattle.rules.specs.State.{Stage, doing, runs}
 use Rattle.rules.specs.Items.{core_of, process_of}
 use Rattle.rules.specs.Rule.{Rule, Ran, accepted, refused, run}
 use Rattle.rules.specs.Packing.{pack, view, k_of, n_of}
 use Rattle.rules.specs.Soundness.{sound}
-use Rattle.answers.specs.Said.{said}
-use Rattle.answers.specs.declared.Answer as answer
-use Rattle.answers.specs.declared.Refusal as refusal
 
--- what the code replies
-abbrev pub Reply : Type 0
-Reply = Result answer.Answer refusal.Refusal
+-- what is said, x, and the table u are what a rule came to, from the table t
+abbrev pub Comes : Ran Answer → List ℕ → Said → List ℕ → Type 0
+Comes (accepted a s) t x u = (x ≡ yes_with a) × (u ≡ pack s)
+Comes (refused why) t x u = (x ≡ no_because why) × (u ≡ t)
 
--- the reply r and the table u are what a rule came to, from the table t
-abbrev pub Comes : Ran Answer → List ℕ → Reply → List ℕ → Type 0
-Comes (accepted a s) t r u = (said r ≡ yes_with a) × (u ≡ pack s)
-Comes (refused why) t r u = (said r ≡ no_because why) × (u ≡ t)
-
-abbrev pub Does : Rule Answer → List ℕ → Reply → List ℕ → Type 0
-Does rule t r u = Comes (run rule (view t)) t r u
+abbrev pub Does : Rule Answer → List ℕ → Said → List ℕ → Type 0
+Does rule t x u = Comes (run rule (view t)) t x u
 
 -- a sound table of as many cores and processes, and a core of it
 pub record Card (t : List ℕ) (cores processes k : ℕ) : Type 0 where
