@@ -1,5 +1,5 @@
 -- The numbers that the code's enums go by, in the rules' names.
-use Rattle.std.specs.Prelude.{ℕ, ◌+◌, ◌-◌, ◌≡◌, ◌<◌, Result, MatchResult}
+use Rattle.std.specs.Prelude.{ℕ, ◌+◌, ◌-◌, ◌≡◌, ◌≤◌, ◌<◌, Result, MatchResult}
 use Rattle.rules.specs.State as rules
 use Rattle.rules.specs.Layout.{at_nothing, at_send_look, at_send_park, at_send_copy, at_send_clear, at_send_wake, at_receive_look}
 use Rattle.rules.specs.Layout.{at_enable_look, at_raise, at_place_name, at_ready_from_look, at_ready_from_place, at_wait, at_disable, at_lower, at_finish}
@@ -55,6 +55,10 @@ number_of Nothing = at_nothing
 number_of (Exchanging way stage) = of_way (which way) (exchange_number stage)
 number_of (Choosing stage) = choice_number stage
 number_of (Due outcome) = outcome_number outcome
+
+-- the outcome of this number, or an error where none has it
+abbrev pub NumbersOutcome : ℕ → Result Outcome NoProgress → Type 0
+NumbersOutcome n r = MatchResult r (λ outcome. outcome_number outcome ≡ n) (λ _. due_go ≤ n → due_chose < n)
 
 -- the progress of this number, or an error where none has it: due_chose is the greatest
 abbrev pub Numbers : ℕ → Result Progress NoProgress → Type 0

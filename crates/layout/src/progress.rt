@@ -1,6 +1,6 @@
 // What a process has in hand, and the numbers that it goes by (crates/rules/specs/Layout.antt).
 ghost use Rattle.std.specs.Prelude.{◌≡◌};
-ghost use Rattle.layout.specs.Numbers.{outcome_number, number_of, Numbers};
+ghost use Rattle.layout.specs.Numbers.{outcome_number, number_of, NumbersOutcome, Numbers};
 
 // The end of a channel that a request is made at: a sender's is the writer's, a receiver's the reader's.
 #[derive(Clone, Copy, Debug, PartialEq, Eq)]
@@ -51,7 +51,7 @@ pub enum Progress {
     Due(Outcome),
 }
 
-// A number that no progress goes by.
+// A number that no progress, or no outcome, goes by.
 #[derive(Clone, Copy, Debug, PartialEq, Eq)]
 pub struct NoProgress;
 
@@ -73,6 +73,22 @@ impl Progress {
             Progress::Exchanging(Way::Receiving, stage) => stage as u32 + 5,
             Progress::Choosing(stage) => stage as u32,
             Progress::Due(outcome) => outcome as u32,
+        }
+    }
+}
+
+impl TryFrom<u32> for Outcome {
+    type Error = NoProgress;
+
+    ghost try_from_gives = { NumbersOutcome };
+
+    fn try_from(number: u32) -> Result<Self, NoProgress> {
+        match number {
+            20 => Ok(Outcome::Go),
+            21 => Ok(Outcome::Sent),
+            22 => Ok(Outcome::Got),
+            23 => Ok(Outcome::Chose),
+            _ => Err(NoProgress),
         }
     }
 }
@@ -104,11 +120,7 @@ impl TryFrom<u32> for Progress {
             17 => Ok(Progress::Choosing(Choice::Disable)),
             18 => Ok(Progress::Choosing(Choice::Lower)),
             19 => Ok(Progress::Choosing(Choice::Finish)),
-            20 => Ok(Progress::Due(Outcome::Go)),
-            21 => Ok(Progress::Due(Outcome::Sent)),
-            22 => Ok(Progress::Due(Outcome::Got)),
-            23 => Ok(Progress::Due(Outcome::Chose)),
-            _ => Err(NoProgress),
+            _ => Ok(Progress::Due(Outcome::try_from(number)?)),
         }
     }
 }

@@ -8,7 +8,7 @@ use lib.Dec.{T, lit<, eqb}
 use lib.ListN.{length, set, length-set}
 use lib.Seq.{get_or-set_same}
 use Rattle.rules.specs.Lists.{bit, first, within, all}
-use Rattle.rules.specs.Numbers.{MOVED, IDLE, yes_with}
+use Rattle.rules.specs.Numbers.{Said, MOVED, IDLE, yes_with}
 use Rattle.rules.specs.State.{Core, no_task}
 use Rattle.rules.specs.Items.{core_of, core, put, no_core}
 use Rattle.rules.specs.CoreStep.{step}
@@ -17,8 +17,6 @@ use Rattle.rules.specs.Packing.{pack, view, word_at}
 use Rattle.packing.specs.Queues.{with_queues}
 use Rattle.rules.proofs.Tests.{both, within_means}
 use Rattle.packing.proofs.ReadLaws.{read_core}
-use Rattle.answers.specs.Four.{four}
-use Rattle.answers.specs.declared.Reply.{Reply}
 use Rattle.parts.specs.Does.{Comes, Does}
 use Rattle.parts.proofs.Packs.{on_pack, as_packed}
 use Rattle.queues.specs.Fits.{CanLoad}
@@ -61,7 +59,7 @@ module _ {t : List ℕ} {cores processes k : ℕ} (free : Free t cores processes
       (batch_law (view t) k (free_inside free) (free_order free))
 
   -- nothing to do
-  pub idle_does : {r : Reply} → word_at t (core_at k core_first) ≡ 0 → has_batch t k ≡ false → r ≡ four (yes_with IDLE) → Does (step k) t r t
+  pub idle_does : {r : Said} → word_at t (core_at k core_first) ≡ 0 → has_batch t k ≡ false → r ≡ yes_with IDLE → Does (step k) t r t
   idle_does {r} no_active none reply =
       let batches = no_batch (core_of (view t) k).run_queue (sym batches_found ∙ none) in
       subst (λ x. Comes x t r t) (sym (idle.idles (view t) k free.work (is_empty no_active) batches)) (reply, (free_packs free).is_pack)
@@ -91,9 +89,9 @@ module _ {t : List ℕ} {cores processes k : ℕ} (pre : Loads t cores processes
       ∙ ap (λ (c : Core). length c.active) (get_or-set_same (view t).cores k c no_core inside)
 
   -- what the code has written: the batch, then the count, then the mark
-  pub load_does : {size n m : ℕ} {a b u : List ℕ} {r : Reply} → a ≡ loaded_table t cores k → size ≡ word_at a (core_at k core_size)
+  pub load_does : {size n m : ℕ} {a b u : List ℕ} {r : Said} → a ≡ loaded_table t cores k → size ≡ word_at a (core_at k core_size)
       → n ≡ min 32 (4 * size) → m ≡ bit (eqb size 1) → b ≡ set a (core_at k core_dispatch) n → u ≡ set b (core_at k core_mark) m
-      → r ≡ four (yes_with MOVED) → Does (step k) t r u
+      → r ≡ yes_with MOVED → Does (step k) t r u
   load_does {u = u} {r = r} active read count mark counted marked reply =
       let size = length batches.0 in
       let wrote : u ≡ loaded_step t cores k (min 32 (4 * size)) (bit (eqb size 1)) = let e = size_is active read in cc in

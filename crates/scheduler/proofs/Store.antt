@@ -3,13 +3,11 @@ use Prim.Native.Nat.{ℕ}
 use mathlib.Core.Path.{◌≡◌, sym, ◌∙◌, subst}
 use mathlib.Core.List.{List}
 use lib.Dec.{lit<}
-use Rattle.rules.specs.Numbers.{MOVED, yes_with}
+use Rattle.rules.specs.Numbers.{Said, MOVED, yes_with}
 use Rattle.rules.specs.Items.{core_of}
 use Rattle.rules.specs.CoreStep.{step}
 use Rattle.rules.specs.Layout.{core_dispatch}
 use Rattle.rules.specs.Packing.{view}
-use Rattle.answers.specs.Four.{four}
-use Rattle.answers.specs.declared.Reply.{Reply}
 use Rattle.parts.specs.Does.{Comes, Does}
 use Rattle.parts.proofs.Packs.{on_pack, as_packed}
 use Rattle.queues.specs.Fits.{CanStore}
@@ -26,7 +24,7 @@ module _ {t : List ℕ} {cores processes k : ℕ} (pre : Stores t cores processe
       let (rest, begins) = queue pre.free pre.head in
       on_pack (free_packs pre.free) (λ u n. CanStore u n k) (can_store (view t) k (free_inside pre.free) (free_order pre.free) _ rest begins)
 
-  pub store_does : {r : Reply} {u : List ℕ} → r ≡ four (yes_with MOVED) → u ≡ stored_table t cores k → Does (step k) t r u
+  pub store_does : {r : Said} {u : List ℕ} → r ≡ yes_with MOVED → u ≡ stored_table t cores k → Does (step k) t r u
   store_does {r} {u} reply wrote =
       let (rest, begins) = queue pre.free pre.head in
       let none : (core_of (view t) k).dispatch ≡ 0 = sym (free_read pre.free core_dispatch (lit< tt)) ∙ pre.count in

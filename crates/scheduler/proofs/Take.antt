@@ -1,23 +1,21 @@
 -- Take: the head of the active queue runs, and answers its outcome or MOVED.
 use Prim.Native.Nat.{ℕ, suc, ◌+◌, ◌-◌, ◌≤◌, ◌<◌}
-use mathlib.Core.Path.{◌≡◌, refl, sym, ap, ◌∙◌, subst, subst₂}
+use mathlib.Core.Path.{◌≡◌, refl, sym, ap, ◌∙◌, subst}
 use mathlib.Core.List.{List, ◌∷◌}
 use native.Mathlib.Omega.{arith}
 use lib.Dec.{lit≤, lit<}
 use lib.ListN.{get_or, length-set}
-use Rattle.rules.specs.Numbers.{MOVED, GOT, yes_with}
+use Rattle.rules.specs.Numbers.{Said, MOVED, GOT, yes_with}
 use Rattle.rules.specs.State.{running, sending, receiving, Stage, look, park, copy, clear, wake, enable_look, raise, place_name, ready_from_look, ready_from_place, wait, disable, lower, finish, Outcome, go, sent, got, chose, Progress, nothing, doing, due, State}
 use Rattle.rules.specs.Items.{core_of, process_of, core, place, put}
 use Rattle.rules.specs.Rule.{run}
 use Rattle.rules.specs.CoreStep.{step}
 use Rattle.rules.specs.Scheduler.{taken}
-use Rattle.rules.specs.Layout.{core_at, process_at, core_first, core_dispatch, process_data, process_progress, process_channel, progress_size, due_go}
+use Rattle.rules.specs.Layout.{core_at, process_at, core_first, core_dispatch, process_data, process_progress, process_channel, progress_size, due_go, due_chose}
 use Rattle.rules.specs.Packing.{view, word_at, progress_words}
 use Rattle.rules.proofs.Nth.{length_set_nth}
 use Rattle.packing.proofs.Links.{Stands}
 use Rattle.packing.proofs.Standing.{first_stands}
-use Rattle.answers.specs.Four.{four}
-use Rattle.answers.specs.declared.Reply.{Reply}
 use Rattle.parts.specs.Does.{Comes, Does}
 use Rattle.parts.specs.Shared.{cleared, reported}
 use Rattle.parts.proofs.Packs.{Packs, IsProcess, on_pack, as_packed, still, still_process, process_read, progress_read, progress_cleared}
@@ -57,33 +55,43 @@ stage_number (lower gs i r) = lit< tt
 stage_number (finish gs r) = lit< tt
 
 -- of an outcome it is one of those
-outcome_number : (o : Outcome) → due_go ≤ get_or (progress_words (due o)) 0 0
+outcome_least : (o : Outcome) → due_go ≤ get_or (progress_words (due o)) 0 0
 unfolding progress_words
-outcome_number go = lit≤ tt
-outcome_number (sent c) = lit≤ tt
-outcome_number (got c) = lit≤ tt
-outcome_number (chose c) = lit≤ tt
+outcome_least go = lit≤ tt
+outcome_least (sent c) = lit≤ tt
+outcome_least (got c) = lit≤ tt
+outcome_least (chose c) = lit≤ tt
+
+outcome_most : (o : Outcome) → get_or (progress_words (due o)) 0 0 ≤ due_chose
+unfolding progress_words
+outcome_most go = lit≤ tt
+outcome_most (sent c) = lit≤ tt
+outcome_most (got c) = lit≤ tt
+outcome_most (chose c) = lit≤ tt
+
+-- no outcome has this number
+abbrev NoOutcome : ℕ → Type 0
+NoOutcome n = due_go ≤ n → due_chose < n
 
 module _ {u : List ℕ} {cores processes : ℕ} {s : State} (packs : Packs u cores processes s) (t : List ℕ) (p : ℕ) where
   -- the taken process goes on with its request
-  pub goes_on : (x : Progress) → get_or (progress_words x) 0 0 < due_go → Comes (run (taken p x) s) t (four (yes_with MOVED)) u
-  goes_on nothing h = (refl, packs.is_pack)
-  goes_on (doing x) h = (refl, packs.is_pack)
-  goes_on (due o) h = absurd (omega (arith, outcome_number o))
+  pub goes_on : (x : Progress) → NoOutcome (get_or (progress_words x) 0 0) → {r : Said} → r ≡ yes_with MOVED → Comes (run (taken p x) s) t r u
+  goes_on nothing h reply = (reply, packs.is_pack)
+  goes_on (doing x) h reply = (reply, packs.is_pack)
+  goes_on (due o) h reply = absurd (omega (arith, h (outcome_least o), outcome_most o))
 
   -- or it answers its outcome
-  pub answers_outcome : IsProcess s p → (x : Progress) → due_go ≤ get_or (progress_words x) 0 0
-      → Comes (run (taken p x) s) t
-      (four (yes_with (reported (get_or (progress_words x) 0 0) p (get_or (progress_words x) channel_place 0) (get_or u (process_at cores p process_data) 0))))
-      (cleared u cores p)
+  pub answers_outcome : IsProcess s p → (x : Progress) → due_go ≤ get_or (progress_words x) 0 0 → {r : Said}
+      → r ≡ yes_with (reported (get_or (progress_words x) 0 0) p (get_or (progress_words x) channel_place 0) (get_or u (process_at cores p process_data) 0))
+      → Comes (run (taken p x) s) t r (cleared u cores p)
   unfolding progress_words
-  answers_outcome is nothing h = absurd (omega arith)
-  answers_outcome is (doing x) h = absurd (omega (arith, stage_number x))
-  answers_outcome is (due go) h = (refl, (progress_cleared packs p is).is_pack)
-  answers_outcome is (due (sent c)) h = (refl, (progress_cleared packs p is).is_pack)
-  answers_outcome is (due (got c)) h =
-      (ap (λ (v : ℕ). four (yes_with (GOT p c v))) (process_read packs p is process_data (lit< tt)), (progress_cleared packs p is).is_pack)
-  answers_outcome is (due (chose c)) h = (refl, (progress_cleared packs p is).is_pack)
+  answers_outcome is nothing h reply = absurd (omega arith)
+  answers_outcome is (doing x) h reply = absurd (omega (arith, stage_number x))
+  answers_outcome is (due go) h reply = (reply, (progress_cleared packs p is).is_pack)
+  answers_outcome is (due (sent c)) h reply = (reply, (progress_cleared packs p is).is_pack)
+  answers_outcome is (due (got c)) h reply =
+      (reply ∙ ap (λ (v : ℕ). yes_with (GOT p c v)) (process_read packs p is process_data (lit< tt)), (progress_cleared packs p is).is_pack)
+  answers_outcome is (due (chose c)) h reply = (reply, (progress_cleared packs p is).is_pack)
 
 module _ {t : List ℕ} {cores processes k : ℕ} (pre : Takes t cores processes k) where
   -- the process that is read, with which the active queue begins
@@ -122,7 +130,7 @@ module _ {t : List ℕ} {cores processes k : ℕ} (pre : Takes t cores processes
   counted n e = sym (free_read pre.free core_dispatch (lit< tt)) ∙ e
 
   -- what the step comes to
-  comes : (n : ℕ) → word_at t (core_at k core_dispatch) ≡ suc n → (r : Reply) (v : List ℕ)
+  comes : (n : ℕ) → word_at t (core_at k core_dispatch) ≡ suc n → (r : Said) (v : List ℕ)
       → Comes (run (taken first (process_of (after n) first).progress) (after n)) t r v
       → Does (step k) t r v
   unfolding after
@@ -160,25 +168,24 @@ module _ {t : List ℕ} {cores processes k : ℕ} (pre : Takes t cores processes
     word_read : (j : ℕ) → j < progress_size → get_or u (process_at cores p (process_progress + j)) 0 ≡ get_or (progress_words (process_of (after n) first).progress) j 0
     word_read j h = (λ i. get_or (written i) (process_at cores (head i) (process_progress + j)) 0) ∙ number_read n j h
 
-    pub take_moved : {num : ℕ} {r : Reply} → num ≡ get_or u (process_at cores p process_progress) 0 → num < due_go
-        → r ≡ four (yes_with MOVED) → Does (step k) t r u
-    take_moved {num} {r} num_is small reply =
+    pub take_moved : {num : ℕ} {r : Said} → num ≡ get_or u (process_at cores p process_progress) 0 → NoOutcome num
+        → r ≡ yes_with MOVED → Does (step k) t r u
+    take_moved {num} {r} num_is other reply =
         let x = (process_of (after n) first).progress in
-        comes n above r u (subst (λ (r : Reply). Comes (run (taken first x) (after n)) t r u) (sym reply)
-        (goes_on packs t first x (subst (λ (m : ℕ). m < due_go) (num_is ∙ word_read 0 (lit< tt)) small)))
+        comes n above r u (goes_on packs t first x (subst NoOutcome (num_is ∙ word_read 0 (lit< tt)) other) reply)
 
-    pub take_reports : {num c : ℕ} {r : Reply} {v : List ℕ} → num ≡ get_or u (process_at cores p process_progress) 0 → due_go ≤ num
+    pub take_reports : {num c : ℕ} {r : Said} {v : List ℕ} → num ≡ get_or u (process_at cores p process_progress) 0 → due_go ≤ num
         → c ≡ get_or u (process_at cores p process_channel) 0
-        → r ≡ four (yes_with (reported num p c (get_or u (process_at cores p process_data) 0))) → v ≡ cleared u cores p → Does (step k) t r v
+        → r ≡ yes_with (reported num p c (get_or u (process_at cores p process_data) 0)) → v ≡ cleared u cores p → Does (step k) t r v
     take_reports {num} {c} {r} {v} num_is large c_is reply cleared_is =
         let x = (process_of (after n) first).progress in
         let number : num ≡ get_or (progress_words x) 0 0 = num_is ∙ word_read 0 (lit< tt) in
         let channel : c ≡ get_or (progress_words x) channel_place 0 = c_is ∙ word_read channel_place (lit< tt) in
-        let said : r ≡ four (yes_with (reported (get_or (progress_words x) 0 0) first (get_or (progress_words x) channel_place 0) (get_or u (process_at cores first process_data) 0))) =
-        reply ∙ (λ i. four (yes_with (reported (number i) (head i) (channel i) (get_or u (process_at cores (head i) process_data) 0)))) in
-        comes n above r v (subst₂ (λ (r : Reply) (v : List ℕ). Comes (run (taken first x) (after n)) t r v) (sym said)
+        let told : r ≡ yes_with (reported (get_or (progress_words x) 0 0) first (get_or (progress_words x) channel_place 0) (get_or u (process_at cores first process_data) 0)) =
+        reply ∙ (λ i. yes_with (reported (number i) (head i) (channel i) (get_or u (process_at cores (head i) process_data) 0))) in
+        comes n above r v (subst (λ (v : List ℕ). Comes (run (taken first x) (after n)) t r v)
         (sym (cleared_is ∙ ap (λ (p : ℕ). cleared u cores p) head))
-        (answers_outcome packs t first (is_taken n) x (subst (λ (m : ℕ). due_go ≤ m) number large)))
+        (answers_outcome packs t first (is_taken n) x (subst (λ (m : ℕ). due_go ≤ m) number large) told))
 
   -- the process that the code has read
   pub can_take_first : {p : ℕ} → p ≡ first → CanTake t cores k p

@@ -5,46 +5,56 @@ ghost use Rattle.std.specs.Prelude.{◌≡◌, ◌*◌, min, eqb};
 ghost use Rattle.rules.specs.Lists.{bit};
 ghost use Rattle.rules.specs.State.{no_task};
 ghost use Rattle.rules.specs.CoreStep.{step};
+ghost use Rattle.answers.specs.Said.{said};
 ghost use Rattle.parts.specs.Does.{Does};
 ghost use Rattle.queues.specs.Fits.{CanTake};
 ghost use Rattle.scheduler.specs.Free.{Free, Takes, Stores, Loads, taken_table};
 
-use answers::Reply;
+use answers::{Answer, Reply};
+use layout::Place;
+use layout::progress::Outcome;
+use table::{Core, Process, Record, Sizes};
 
 // The first process p of the active queue runs, and the dispatch count is n.
-fn run_first(t: &mut [u32], cores: usize, k: usize, p: u32, n: u32)
-    requires { CanTake t.old cores k p }
-    ensures { t.new ≡ taken_table t.old cores k p n }
+fn run_first(t: &mut [u32], core: Core, p: Process, n: u32)
+    requires { CanTake t.old p.sizes.cores core.0 p.number }
+    ensures { t.new ≡ taken_table t.old p.sizes.cores core.0 p.number n }
 {
-    queues::take_first(t, cores, k, p);
-    table::set_core_word(t, k, layout::CORE_RUNS, p);
-    table::set_core_word(t, k, layout::CORE_DISPATCH, n);
-    table::set_process_word(t, cores, p, layout::PROCESS_PLACE, layout::PLACE_RUNNING);
+    queues::take_first(t, core, p);
+    core.set(t, layout::CORE_RUNS, p.number);
+    core.set(t, layout::CORE_DISPATCH, n);
+    p.set(t, layout::PROCESS_PLACE, Place::Running as u32);
 }
 
 // Take the head, count - 1; answer its outcome, or MOVED where its request goes on.
-fn take_step(t: &mut [u32], cores: usize, processes: usize, k: usize) -> Reply
-    requires { Takes t.old cores processes k }
-    ensures { Does (step k) t.old result t.new }
+#[tactic(auto, using(crate::proofs::Known::free_core, crate::proofs::Take::can_take_first, crate::proofs::Take::head_has, crate::proofs::Take::take_moved, crate::proofs::Take::take_reports))]
+fn take_step(t: &mut [u32], sizes: Sizes, core: Core) -> Reply
+    requires { Takes t.old sizes.cores sizes.processes core.0 }
+    ensures { Does (step core.0) t.old (said result) t.new }
 {
-    let p = table::core_word(t, k, layout::CORE_FIRST);
-    let count = table::core_word(t, k, layout::CORE_DISPATCH);
-    run_first(t, cores, k, p, count - 1);
-    let number = table::process_word(t, cores, p, layout::PROCESS_PROGRESS);
-    if number < layout::DUE_GO {
-        return answers::moved();
+    let p = Process {
+        sizes,
+        number: core.word(t, layout::CORE_FIRST),
+    };
+    let count = core.word(t, layout::CORE_DISPATCH);
+    run_first(t, core, p, count - 1);
+    match Outcome::try_from(p.word(t, layout::PROCESS_PROGRESS)) {
+        Ok(outcome) => {
+            let c = p.word(t, layout::PROCESS_CHANNEL);
+            parts::reports(t, p, outcome, c)
+        }
+        Err(_) => Ok(Answer::Moved),
     }
-    let c = table::process_word(t, cores, p, layout::PROCESS_CHANNEL);
-    parts::reports(t, cores, p, number, c)
 }
 
 // Store the active queue.
-fn store_step(t: &mut [u32], cores: usize, processes: usize, k: usize) -> Reply
-    requires { Stores t.old cores processes k }
-    ensures { Does (step k) t.old result t.new }
+#[tactic(auto, using(crate::proofs::Store::may_store, crate::proofs::Store::store_does))]
+fn store_step(t: &mut [u32], sizes: Sizes, core: Core) -> Reply
+    requires { Stores t.old sizes.cores sizes.processes core.0 }
+    ensures { Does (step core.0) t.old (said result) t.new }
 {
-    queues::store(t, cores, k);
-    answers::moved()
+    queues::store(t, sizes, core);
+    Ok(Answer::Moved)
 }
 
 // The lesser of 32 and 4 times a batch's size.
@@ -54,42 +64,34 @@ fn dispatch_count(size: u32) -> u32
     if size < 8 { 4 * size } else { 32 }
 }
 
-// The mark is set exactly if the size is 1.
-fn single_mark(size: u32) -> u32
-    ensures { result ≡ bit (eqb size 1) }
+// Load the first batch; the mark is set exactly if its size is 1.
+#[tactic(auto, using(crate::proofs::Known::free_core, crate::proofs::Load::may_load, crate::proofs::Load::load_does))]
+fn load_step(t: &mut [u32], sizes: Sizes, core: Core) -> Reply
+    requires { Loads t.old sizes.cores sizes.processes core.0 }
+    ensures { Does (step core.0) t.old (said result) t.new }
 {
-    if size == 1 { 1 } else { 0 }
-}
-
-// Load the first batch.
-fn load_step(t: &mut [u32], cores: usize, processes: usize, k: usize) -> Reply
-    requires { Loads t.old cores processes k }
-    ensures { Does (step k) t.old result t.new }
-{
-    queues::load(t, cores, k);
-    let size = table::core_word(t, k, layout::CORE_SIZE);
-    let count = dispatch_count(size);
-    let mark = single_mark(size);
-    table::set_core_word(t, k, layout::CORE_DISPATCH, count);
-    table::set_core_word(t, k, layout::CORE_MARK, mark);
-    answers::moved()
+    queues::load(t, sizes, core);
+    let size = core.word(t, layout::CORE_SIZE);
+    core.set(t, layout::CORE_DISPATCH, dispatch_count(size));
+    core.set(t, layout::CORE_MARK, u32::from(size == 1));
+    Ok(Answer::Moved)
 }
 
 // Nothing runs and there is no task: store, take, load, or nothing to do.
-pub fn schedule(t: &mut [u32], cores: usize, processes: usize, k: usize) -> Reply
-    requires { Free t.old cores processes k no_task }
-    ensures { Does (step k) t.old result t.new }
+#[tactic(auto, using(crate::proofs::Known::free_core, crate::proofs::Load::idle_does))]
+pub fn schedule(t: &mut [u32], sizes: Sizes, core: Core) -> Reply
+    requires { Free t.old sizes.cores sizes.processes core.0 no_task }
+    ensures { Does (step core.0) t.old (said result) t.new }
 {
-    let head = table::core_word(t, k, layout::CORE_FIRST);
-    let count = table::core_word(t, k, layout::CORE_DISPATCH);
-    if head != 0 {
-        if count == 0 {
-            return store_step(t, cores, processes, k);
+    if core.word(t, layout::CORE_FIRST) == 0 {
+        if queues::has_batch(t, core) {
+            load_step(t, sizes, core)
+        } else {
+            Ok(Answer::Idle)
         }
-        return take_step(t, cores, processes, k);
+    } else if core.word(t, layout::CORE_DISPATCH) == 0 {
+        store_step(t, sizes, core)
+    } else {
+        take_step(t, sizes, core)
     }
-    if queues::has_batch(t, k) {
-        return load_step(t, cores, processes, k);
-    }
-    answers::idle()
 }
