@@ -1,6 +1,6 @@
 -- What the writes of look, park, copy and clear come to: each step does its rule.
 use Rattle.std.proofs.Common.{◌≡◌, ℕ, ◌+◌, ◌%◌, List, [], ◌∷◌, get_or, set, sym, refl, ap, ◌∙◌, subst, lit<}
-use Rattle.rules.specs.Numbers.{Answer, MOVED, SLEPT, yes_with}
+use Rattle.rules.specs.Numbers.{Said, Answer, MOVED, SLEPT, yes_with}
 use Rattle.rules.specs.State.{Way, sending, receiving, look, park, copy, clear, wake, doing, due, Task, no_task, trigger, free, nobody, plain, State}
 use Rattle.rules.specs.Items.{process_of, channel_of, put, data_word, progress, channel_word, transfers}
 use Rattle.rules.specs.Layout.{process_at, channel_at, process_data, process_progress, process_partner, channel_holder, channel_transfers, task_none, task_trigger, at_send_park, at_send_copy, at_send_clear, at_send_wake}
@@ -10,12 +10,11 @@ use Rattle.rules.specs.Steps.{sleeps, after_look, outcome, parked, look_step, pa
 use Rattle.words.specs.Meaning.{meaning}
 use Rattle.words.specs.declared.Holder.{Holder}
 use Rattle.words.specs.declared.Holder.TheVariants.{Nobody, Plain, Choosing}
-use Rattle.answers.specs.Four.{four}
-use Rattle.answers.specs.declared.Reply.{Reply}
-use Rattle.parts.specs.Does.{At, Comes, Does, of_way}
+use Rattle.parts.specs.Does.{At, Comes, Does}
+use Rattle.layout.specs.Numbers.{of_way}
 use Rattle.parts.specs.Shared.{asleep_table}
 use Rattle.parts.proofs.Packs.{Packs, IsProcess, still_process, progress_kept, channel_read, process_read, word_written, transfers_written, data_written, asleep_written}
-use Rattle.steps.specs.Outcomes.{due_of, copied}
+use Rattle.steps.specs.Outcomes.{due_of, copied, counted}
 use Rattle.steps.proofs.Moves.{stage_words, goes_on, finds}
 use Rattle.steps.proofs.Near.{found_near, at_look, at_park, at_copy, at_clear}
 
@@ -26,8 +25,8 @@ Found t cores processes c found = meaning found ≡ word_numbered (get_or t (cha
 module _ {t : List ℕ} {cores processes k p c : ℕ} {w : Way} (at : At t cores processes k p (look w c)) {found : Holder}
     (means : Found t cores processes c found) where
   -- look: nobody to copy with is there
-  pub look_parks : {h : Holder} → found ≡ h → after_look w c (meaning h) ≡ park w c → {r : Reply} {u : List ℕ}
-      → r ≡ four (yes_with MOVED) → u ≡ set t (process_at cores p process_progress) (of_way w at_send_park) → Does (look_step p w c) t r u
+  pub look_parks : {h : Holder} → found ≡ h → after_look w c (meaning h) ≡ park w c → {r : Said} {u : List ℕ}
+      → r ≡ yes_with MOVED → u ≡ set t (process_at cores p process_progress) (of_way w at_send_park) → Does (look_step p w c) t r u
   look_parks is next reply written =
       let near = at_look at in
       let words = stage_words w c 0 in
@@ -35,7 +34,7 @@ module _ {t : List ℕ} {cores processes k p c : ℕ} {w : Way} (at : At t cores
       rw (found_near near is means, next) (reply, written ∙ parking.is_pack)
 
   -- a partner is
-  pub look_copies : {q : ℕ} → found ≡ Plain q → {r : Reply} {u : List ℕ} → r ≡ four (yes_with MOVED)
+  pub look_copies : {q : ℕ} → found ≡ Plain q → {r : Said} {u : List ℕ} → r ≡ yes_with MOVED
       → u ≡ set (set t (process_at cores p process_partner) q) (process_at cores p process_progress) (of_way w at_send_copy)
       → Does (look_step p w c) t r u
   look_copies {q} is reply written =
@@ -52,14 +51,14 @@ module _ {t : List ℕ} {cores processes k p c : ℕ} {w : Way} (at : At t cores
 
   module _ {found : Holder} (means : Found t cores processes c found) where
     -- what stood there decides
-    parked_does : {h : Holder} → found ≡ h → (r : Reply) (v : List ℕ) {rule : Rule Answer} → parked k p w c (meaning h) ≡ rule
+    parked_does : {h : Holder} → found ≡ h → (r : Said) (v : List ℕ) {rule : Rule Answer} → parked k p w c (meaning h) ≡ rule
         → Comes (run rule (put channel_word c (plain p) (view t))) t r v → Does (park_step k p w c) t r v
     parked_does is r v e d =
         subst (λ (x : Rule Answer). Comes (run x (put channel_word c (plain p) (view t))) t r v)
         (sym (ap (parked k p w c) (found_near (at_park at) is means) ∙ e)) d
 
     -- the look was stale
-    pub park_copies : {q : ℕ} → found ≡ Plain q → {r : Reply} {v : List ℕ} → r ≡ four (yes_with MOVED)
+    pub park_copies : {q : ℕ} → found ≡ Plain q → {r : Said} {v : List ℕ} → r ≡ yes_with MOVED
         → v ≡ set (set u (process_at cores p process_partner) q) (process_at cores p process_progress) (of_way w at_send_copy)
         → Does (park_step k p w c) t r v
     park_copies {q} is {r} {v} reply written =
@@ -69,7 +68,7 @@ module _ {t : List ℕ} {cores processes k p c : ℕ} {w : Way} (at : At t cores
 
     -- one falls asleep, and the core has a task
     park_sleeps : (y : Task) {task q : ℕ} → work_words (free y) ≡ 0 ∷ task ∷ q ∷ [] → {h : Holder} → found ≡ h
-        → parked k p w c (meaning h) ≡ sleeps k p (due (outcome w c)) y → {r : Reply} {v : List ℕ} → r ≡ four (yes_with (SLEPT p))
+        → parked k p w c (meaning h) ≡ sleeps k p (due (outcome w c)) y → {r : Said} {v : List ℕ} → r ≡ yes_with (SLEPT p)
         → v ≡ asleep_table (set u (process_at cores p process_progress) (due_of w)) cores k p task q → Does (park_step k p w c) t r v
     park_sleeps y {task} {q} e is next {r} {v} reply written =
         let near = at_park at in
@@ -79,11 +78,11 @@ module _ {t : List ℕ} {cores processes k p c : ℕ} {w : Way} (at : At t cores
         parked_does is r v next (reply, written ∙ sleeping.is_pack)
 
     -- which is none, or to trigger the one who is choosing
-    pub park_alone : found ≡ Nobody → {r : Reply} {v : List ℕ} → r ≡ four (yes_with (SLEPT p))
+    pub park_alone : found ≡ Nobody → {r : Said} {v : List ℕ} → r ≡ yes_with (SLEPT p)
         → v ≡ asleep_table (set u (process_at cores p process_progress) (due_of w)) cores k p task_none 0 → Does (park_step k p w c) t r v
     park_alone is = park_sleeps no_task refl is refl
 
-    pub park_triggers : {q : ℕ} → found ≡ Choosing q → {r : Reply} {v : List ℕ} → r ≡ four (yes_with (SLEPT p))
+    pub park_triggers : {q : ℕ} → found ≡ Choosing q → {r : Said} {v : List ℕ} → r ≡ yes_with (SLEPT p)
         → v ≡ asleep_table (set u (process_at cores p process_progress) (due_of w)) cores k p task_trigger q → Does (park_step k p w c) t r v
     park_triggers {q} is = park_sleeps (trigger q) refl is refl
 
@@ -95,7 +94,7 @@ data_copied {s = s} packs d e is is' = rw (process_read packs e is' process_data
 module _ {t : List ℕ} {cores processes k p c q : ℕ} where
   -- copy: one transfer more, after the data word of d was written
   one_more : {w : Way} → At t cores processes k p (copy w c q) → {u : List ℕ} (d v : ℕ) → Packs u cores processes (put data_word d v (view t))
-      → (let count = channel_at cores processes c channel_transfers in set (set u count ((get_or u count 0 + 1) % 4294967296)) (process_at cores p process_progress) (of_way w at_send_clear))
+      → set (counted u cores processes c) (process_at cores p process_progress) (of_way w at_send_clear)
       ≡ pack
       (put progress p (doing (clear w c q))
       (put transfers c (((channel_of (view t) c).transfers + 1) % 4294967296) (put data_word d v (view t))))
@@ -107,22 +106,21 @@ module _ {t : List ℕ} {cores processes k p c q : ℕ} where
       let is : IsProcess (put data_word d v (view t)) p = still_process (view t) p d _ near.is_process in
       rw (channel_read packs c near.is_channel channel_transfers (lit< tt)) (goes_on counted p is had (doing (clear w c q)) words.copy words.clear).is_pack
 
-  pub copy_does : (w : Way) → At t cores processes k p (copy w c q) → {u : List ℕ} {n : ℕ} → u ≡ copied w t cores p q
-      → n ≡ get_or u (channel_at cores processes c channel_transfers) 0 → {m : ℕ} {v z : List ℕ} {r : Reply} → m ≡ (n + 1) % 4294967296
-      → v ≡ set u (channel_at cores processes c channel_transfers) m → r ≡ four (yes_with MOVED) → z ≡ set v (process_at cores p process_progress) (of_way w at_send_clear)
+  pub copy_does : (w : Way) → At t cores processes k p (copy w c q) → {u : List ℕ} → u ≡ copied w t cores p q
+      → {v z : List ℕ} {r : Said} → v ≡ counted u cores processes c → r ≡ yes_with MOVED → z ≡ set v (process_at cores p process_progress) (of_way w at_send_clear)
       → Does (copy_step p w c q) t r z
-  copy_does sending at e₁ e₂ e₃ e₄ reply written =
+  copy_does sending at e₁ e₂ reply written =
       let near = (at_copy at).0 in
       let partner = (at_copy at).1 in
       (reply, (cc (one_more at q _ (data_copied near.packs q p partner.is_process near.is_process))))
-  copy_does receiving at e₁ e₂ e₃ e₄ reply written =
+  copy_does receiving at e₁ e₂ reply written =
       let near = (at_copy at).0 in
       let partner = (at_copy at).1 in
       (reply, (cc (one_more at p _ (data_copied near.packs p q near.is_process partner.is_process))))
 
   -- clear
-  pub clear_does : {w : Way} → At t cores processes k p (clear w c q) → {u v : List ℕ} {r : Reply}
-      → u ≡ set t (channel_at cores processes c channel_holder) 0 → r ≡ four (yes_with MOVED) → v ≡ set u (process_at cores p process_progress) (of_way w at_send_wake)
+  pub clear_does : {w : Way} → At t cores processes k p (clear w c q) → {u v : List ℕ} {r : Said}
+      → u ≡ set t (channel_at cores processes c channel_holder) 0 → r ≡ yes_with MOVED → v ≡ set u (process_at cores p process_progress) (of_way w at_send_wake)
       → Does (clear_step p w c q) t r v
   clear_does {w} at {u} e reply written =
       let near = (at_clear at).0 in

@@ -5,7 +5,7 @@ use Rattle.rules.specs.Items.{process_of, put, progress}
 use Rattle.rules.specs.Layout.{process_at, process_progress, process_partner, at_send_look, at_send_park, at_send_copy, at_send_clear, at_send_wake}
 use Rattle.rules.specs.Packing.{of_channel, progress_words}
 use Rattle.rules.specs.Steps.{outcome}
-use Rattle.parts.specs.Does.{of_way}
+use Rattle.layout.specs.Numbers.{of_way}
 use Rattle.parts.proofs.Packs.{Packs, IsProcess, progress_written}
 use Rattle.steps.specs.Outcomes.{due_of}
 

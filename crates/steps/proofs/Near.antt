@@ -101,6 +101,9 @@ module _ {t u : List ℕ} {cores processes k p c : ℕ} {w : Way} (same : length
   park_channel at = near_channel same (at_park at)
 
   module _ {q : ℕ} where
+    pub copy_channel : At t cores processes k p (copy w c q) → HasChannel u cores processes c
+    copy_channel at = near_channel same (at_copy at).0
+
     pub clear_channel : At t cores processes k p (clear w c q) → HasChannel u cores processes c
     clear_channel at = near_channel same (at_clear at).0
 

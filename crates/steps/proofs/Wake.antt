@@ -1,20 +1,19 @@
 -- What wake comes to: it does its rule.
-use Rattle.std.proofs.Common.{◌≡◌, ℕ, ◌≤◌, Bool, true, false, List, get_or, sym, refl, ◌∙◌, subst, lit<}
-use Rattle.rules.specs.Numbers.{Answer, FAULT, yes_with, no_because}
+use Rattle.std.proofs.Common.{◌≡◌, ℕ, ◌≤◌, List, Result, Ok, get_or, sym, refl, ◌∙◌, subst, lit<}
+use Rattle.rules.specs.Numbers.{Said, Answer, yes_with}
 use Rattle.rules.specs.State.{Way, sending, receiving, wake, nothing, State}
 use Rattle.rules.specs.Items.{process_of, put, progress}
 use Rattle.rules.specs.Layout.{process_at, process_data}
 use Rattle.rules.specs.Rule.{Ran, accepted, run}
 use Rattle.rules.specs.Steps.{outcome, reports, wake_step}
-use Rattle.answers.specs.Four.{four}
-use Rattle.answers.specs.declared.Reply.{Reply}
+use Rattle.answers.specs.declared.Refusal.{Refusal}
 use Rattle.parts.specs.Does.{At, Comes, Does}
 use Rattle.parts.specs.Shared.{cleared, reported}
 use Rattle.parts.proofs.Packs.{IsProcess, process_read, progress_cleared}
 use Rattle.steps.specs.Outcomes.{due_of}
 use Rattle.steps.specs.Wakes.{CanWake, Wakes}
 use Rattle.steps.proofs.Near.{at_wake}
-use Rattle.steps.proofs.Waking.{GoesOn, woken, not_woken}
+use Rattle.steps.proofs.Waking.{GoesOn, woken}
 
 -- what the report of an outcome comes to
 report_runs : (p : ℕ) (w : Way) (c : ℕ) (s : State)
@@ -29,14 +28,10 @@ module _ {t : List ℕ} {cores processes k p c q : ℕ} {w : Way} (at : At t cor
       let is = (at_wake at).1.is_process in
       record { card = at.card; from_one = is.0; inside = subst (λ (n : ℕ). q ≤ n) (sym near.packs.all_processes) is.1 }
 
-  module _ {woke : Bool} {u : List ℕ} (wakes : Wakes t k q woke u) where
-    -- the partner wasn't asleep
-    pub wake_faults : woke ≡ false → {r : Reply} → r ≡ four (no_because FAULT) → Does (wake_step k p w c q) t r u
-    wake_faults was said = not_woken can_wake wakes was (reports p (outcome w c)) said
-
-    -- it was: the outcome is reported
-    pub wake_reports : woke ≡ true → {m : ℕ} → m ≡ due_of w → {r : Reply} {v : List ℕ}
-        → r ≡ four (yes_with (reported m p c (get_or u (process_at cores p process_data) 0))) → v ≡ cleared u cores p
+  module _ {woke : Result (Unit {0}) Refusal} {u : List ℕ} (wakes : Wakes t k q woke u) where
+    -- the partner was asleep: the outcome is reported
+    pub wake_reports : woke ≡ Ok tt → {m : ℕ} → m ≡ due_of w → {r : Said} {v : List ℕ}
+        → r ≡ yes_with (reported m p c (get_or u (process_at cores p process_data) 0)) → v ≡ cleared u cores p
         → Does (wake_step k p w c q) t r v
     wake_reports was number {r} {v} reply written =
         subst (λ (x : Ran Answer). Comes x t r v) (sym (goes.rest_runs (reports p (outcome w c)) ∙ report_runs p w c goes.state))

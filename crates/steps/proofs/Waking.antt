@@ -1,6 +1,6 @@
 -- To wake a process: what the code of it comes to, and what a rule that begins with it comes to then.
-use Rattle.std.proofs.Common.{◌≡◌, ℕ, ◌≤◌, Bool, true, false, List, get_or, set, sym, refl, ap, ◌∙◌, subst, arith, lit<}
-use Rattle.rules.specs.Numbers.{Answer, FAULT, no_because}
+use Rattle.std.proofs.Common.{◌≡◌, ℕ, ◌≤◌, List, get_or, Result, Ok, Err, set, sym, refl, ap, ◌∙◌, subst, arith, lit<}
+use Rattle.rules.specs.Numbers.{Said, Answer, no_because}
 use Rattle.rules.specs.State.{Place, running, queued, asleep, ended, State, wiring}
 use Rattle.rules.specs.Items.{process_of, get, put}
 use Rattle.rules.specs.Layout.{process_at, process_place, place_queued, place_asleep}
@@ -9,15 +9,20 @@ use Rattle.rules.specs.Rule.{Rule, done, refuse, read, write, Ran, accepted, ref
 use Rattle.rules.specs.Steps.{must_sleep, joins, wakes}
 use Rattle.rules.proofs.Laws.Frame.{HasWiring, run_wiring}
 use Rattle.packing.specs.Queues.{push_table}
-use Rattle.answers.specs.Four.{four}
-use Rattle.answers.specs.declared.Reply.{Reply}
 use Rattle.table.specs.Has.{HasProcess}
+use Rattle.answers.specs.Said.{because}
+use Rattle.answers.specs.declared.Refusal.{Refusal}
+use Rattle.answers.specs.declared.Refusal.TheVariants.{Fault}
 use Rattle.parts.specs.Does.{Comes}
 use Rattle.parts.proofs.Card.{facts, processes_are, card_process, card_inside, card_order}
 use Rattle.parts.proofs.Packs.{Packs, IsProcess, card_packs, process_read}
 use Rattle.queues.specs.Fits.{CanJoin}
 use Rattle.queues.proofs.Joined.{may_join, joined}
 use Rattle.steps.specs.Wakes.{CanWake, Woken, Wakes}
+
+-- whether it was woken, or why not
+abbrev Woke : Type 0
+Woke = Result (Unit {0}) Refusal
 
 module _ {t : List ℕ} {cores processes k q : ℕ} (can : CanWake t cores processes k q) where
   is_process : IsProcess (view t) q
@@ -36,28 +41,28 @@ module _ {t : List ℕ} {cores processes k q : ℕ} (can : CanWake t cores proce
     place_is : place_number (process_of (view t) q).place ≡ n
     place_is = sym (place ∙ process_read (card_packs can.card) q is_process process_place (lit< tt))
 
-    by_place : (r : Bool) (u : List ℕ) {x : Place} → (process_of (view t) q).place ≡ x
+    by_place : (r : Woke) (u : List ℕ) {x : Place} → (process_of (view t) q).place ≡ x
         → Woken (run (must_sleep x >> joins k q) (view t)) t r u → Wakes t k q r u
     by_place r u e w = record { by_rule = subst (λ (x : Place). Woken (run (must_sleep x >> joins k q) (view t)) t r u) (sym e) w }
 
-    pub stays_awake : (n ≡ place_asleep → ⊥) → Wakes t k q false t
+    pub stays_awake : (n ≡ place_asleep → ⊥) → Wakes t k q (Err Fault) t
     stays_awake awake = go (process_of (view t) q).place refl
       where
-        go : (x : Place) → (process_of (view t) q).place ≡ x → Wakes t k q false t
-        go running e = by_place false t e (refl, (refl, refl))
-        go queued e = by_place false t e (refl, (refl, refl))
+        go : (x : Place) → (process_of (view t) q).place ≡ x → Wakes t k q (Err Fault) t
+        go running e = by_place (Err Fault) t e (refl, (refl, refl))
+        go queued e = by_place (Err Fault) t e (refl, (refl, refl))
         go asleep e = absurd (awake (sym place_is ∙ ap place_number e))
-        go ended e = by_place false t e (refl, (refl, refl))
+        go ended e = by_place (Err Fault) t e (refl, (refl, refl))
 
     pub wakes_up : n ≡ place_asleep → {u : List ℕ} → u ≡ push_table (set t (process_at cores q process_place) place_queued) cores k q
-        → Wakes t k q true u
+        → Wakes t k q (Ok tt) u
     wakes_up sleeps {u} pushed = go (process_of (view t) q).place refl
       where
-        go : (x : Place) → (process_of (view t) q).place ≡ x → Wakes t k q true u
+        go : (x : Place) → (process_of (view t) q).place ≡ x → Wakes t k q (Ok tt) u
         go running e = absurd (let z = place_is in let f = ap place_number e in omega arith)
         go queued e = absurd (let z = place_is in let f = ap place_number e in omega arith)
         go asleep e =
-            by_place true u e
+            by_place (Ok tt) u e
             (refl, pushed ∙ (joined (card_packs can.card) k (card_inside can.card) (card_order can.card) q is_process).is_pack)
         go ended e = absurd (let z = place_is in let f = ap place_number e in omega arith)
 
@@ -78,9 +83,9 @@ pub record GoesOn (t u : List ℕ) (cores processes k q : ℕ) : Type 0 where
   pub packs : Packs u cores processes state
   pub rest_runs : (rest : Rule Answer) → run (wakes k q >> rest) (view t) ≡ run rest state
 
-module _ {t u : List ℕ} {cores processes k q : ℕ} {r : Bool} (can : CanWake t cores processes k q) (woke : Wakes t k q r u) where
+module _ {t u : List ℕ} {cores processes k q : ℕ} {r : Woke} (can : CanWake t cores processes k q) (woke : Wakes t k q r u) where
   -- it was asleep
-  pub woken : r ≡ true → GoesOn t u cores processes k q
+  pub woken : r ≡ Ok tt → GoesOn t u cores processes k q
   woken was = go (run (wakes k q) (view t)) woke.by_rule (run_wiring (wakes k q) (view t)) (λ rest. run_then (wakes k q) rest (view t))
     where
       go : (x : Ran (Unit {0})) → Woken x t r u → HasWiring (wiring (view t)) x
@@ -100,11 +105,13 @@ module _ {t u : List ℕ} {cores processes k q : ℕ} {r : Bool} (can : CanWake 
       go (refused why) w same runs = absurd (let z : ◌≡◌ {A = ℕ} 0 1 = cc in omega arith)
 
   -- it wasn't
-  pub not_woken : r ≡ false → (rest : Rule Answer) {reply : Reply} → reply ≡ four (no_because FAULT)
+  pub not_woken : {why : Refusal} → r ≡ Err why → (rest : Rule Answer) {reply : Said} → reply ≡ no_because (because why)
       → Comes (run (wakes k q >> rest) (view t)) t reply u
-  not_woken was rest {reply} said =
+  not_woken {why} was rest {reply} told =
       subst (λ (x : Ran Answer). Comes x t reply u) (sym (run_then (wakes k q) rest (view t))) (go (run (wakes k q) (view t)) woke.by_rule)
     where
       go : (x : Ran (Unit {0})) → Woken x t r u → Comes (then x rest) t reply u
       go (accepted x s) w = absurd (let z : ◌≡◌ {A = ℕ} 0 1 = cc in omega arith)
-      go (refused why) w = (rw w.1.0 said, w.1.1)
+      go (refused it) w =
+          let fault : why ≡ Fault = cc in
+          (told ∙ ap (λ (x : Refusal). no_because (because x)) fault ∙ ap no_because (sym w.1.0), w.1.1)

@@ -3,11 +3,11 @@ use Rattle.std.proofs.Common.{arith}
 use Rattle.steps.proofs.Waking.{woken_process, can_join, stays_awake, wakes_up}
 use Rattle.steps.proofs.wakes.Goals as goal
 
-pub process_word-place-requires : goal.process_word-place-requires
-process_word-place-requires c = let has = woken_process c.requires in omega arith
+pub word-requires-clause-reaches : goal.word-requires-clause-reaches
+word-requires-clause-reaches c = let has = woken_process c.requires in omega arith
 
-pub returns-then-place-ne-PLACE_ASLEEP : goal.returns-then-place-ne-PLACE_ASLEEP
-returns-then-place-ne-PLACE_ASLEEP c = search stays_awake
+pub returns-then-word : goal.returns-then-word
+returns-then-word c = search stays_awake
 
 pub joins-requires : goal.joins-requires
 joins-requires c = search can_join
