@@ -1,7 +1,7 @@
 // What a call answers, or why it is refused: the number returned and the answer words (docs/NUMBERS.md).
 #![tactic(auto)]
 
-ghost use Rattle.std.specs.Prelude.{◌≡◌, T};
+ghost use Rattle.std.specs.Prelude.{◌≡◌, T, IfOk};
 ghost use Rattle.rules.specs.Numbers.{reply, refusal_number, number_of, written, lends, well_lent};
 ghost use Rattle.answers.specs.Said.{answered, because, said, told};
 
@@ -104,7 +104,7 @@ pub fn lent_well(answer: &[u32]) -> bool
 
 // An accepted call's words are written; a refused one writes nothing.
 pub fn tell(answer: &mut [u32], r: Reply)
-    requires { T (well_lent (lends answer.old)) }
+    requires { IfOk r (λ _. T (well_lent (lends answer.old))) }
     ensures { lends answer.new ≡ told (said r) (lends answer.old) }
 {
     if let Ok(given) = r {

@@ -5,7 +5,7 @@ use mathlib.Core.List.{List}
 use native.Mathlib.Decide.{ℕ_discrete}
 use native.Mathlib.Omega.{arith}
 use lib.ListN.{length, get_or, get_or-eq_default}
-use Rattle.rules.specs.Numbers.{AWAITED, no_because}
+use Rattle.rules.specs.Numbers.{Said, AWAITED, no_because}
 use Rattle.rules.specs.State.{Stage, Progress, nothing, doing, due, Work}
 use Rattle.rules.specs.Items.{core_of, process_of}
 use Rattle.rules.specs.Rule.{run}
@@ -14,8 +14,6 @@ use Rattle.rules.specs.Layout.{process_at, process_progress, at_nothing, at_send
 use Rattle.rules.specs.Packing.{view, progress_list, progress_numbered}
 use Rattle.rules.proofs.Tests.{within_means}
 use Rattle.rules.proofs.Packing.Numbered.{progress_by_place}
-use Rattle.answers.specs.Four.{four}
-use Rattle.answers.specs.declared.Reply.{Reply}
 use Rattle.parts.specs.Does.{At, Comes, Does}
 use Rattle.parts.proofs.Card.{work_valid, n_is}
 use Rattle.parts.proofs.Seen.{progress_seen}
@@ -45,15 +43,6 @@ no_stage t cores p n c q h = by_number (ℕ_discrete n due_go) (ℕ_discrete n d
     by_number (no a) (no b) (no c) (no d) = let long : due_chose < n = omega arith in
         rw (progress_by_place, get_or-eq_default (progress_list _ _ _ _ _) nothing long) tt
 
--- none of the numbers from 1 to m
-abbrev NoneOf : ℕ → ℕ → Type 0
-NoneOf zero n = Unit {0}
-NoneOf (suc m) n = NoneOf m n × (n ≡ suc m → ⊥)
-
-beyond : (m n : ℕ) → at_send_look ≤ n → NoneOf m n → m < n
-beyond zero n first none = first
-beyond (suc m) n first none = let before = beyond m n first none.0 in let other = none.1 in omega arith
-
 module _ {t : List ℕ} {cores processes k p n c q : ℕ} (reads : Reads t cores processes k p n c q) where
   -- the progress is that of the words that were read
   progress_is : (process_of (view t) p).progress ≡ progress_at t cores p n c q
@@ -78,23 +67,29 @@ module _ {t : List ℕ} {cores processes k p n c q : ℕ} (reads : Reads t cores
       ap (λ (w : Work). run (work_step k (core_of (view t) k) w) (view t)) reads.running.work
       ∙ ap (λ (x : Progress). run (running_step k p x) (view t)) e
 
-  pub does_number : (r : Reply) (u : List ℕ) {m : ℕ} → n ≡ m → Does (running_step k p (progress_at t cores p m c q)) t r u → Does (step k) t r u
+  pub does_number : (r : Said) (u : List ℕ) {m : ℕ} → n ≡ m → Does (running_step k p (progress_at t cores p m c q)) t r u → Does (step k) t r u
   does_number r u e does =
       subst (λ y. Comes y t r u) (sym (stepped (progress_is ∙ ap (λ (n : ℕ). progress_at t cores p n c q) e))) does
 
   -- or there is none
-  pub does_nothing : at_send_look ≤ n → NoneOf at_finish n → {r : Reply} → r ≡ four (no_because AWAITED) → Does (step k) t r t
-  does_nothing first none {r} reply =
-      by_progress (progress_at t cores p n c q) (no_stage t cores p n c q (beyond at_finish n first none)) progress_is
+  pub does_nothing : NoStage (progress_at t cores p n c q) → {r : Said} → r ≡ no_because AWAITED → Does (step k) t r t
+  does_nothing none {r} reply = by_progress (progress_at t cores p n c q) none progress_is
     where
       by_progress : (x : Progress) → NoStage x → (process_of (view t) p).progress ≡ x → Does (step k) t r t
       by_progress nothing h e = subst (λ y. Comes y t r t) (sym (stepped e)) (reply, refl)
       by_progress (doing y) h e = absurd h
       by_progress (due o) h e = subst (λ y. Comes y t r t) (sym (stepped e)) (reply, refl)
 
--- nothing in hand
-pub nothing_in_hand : {t : List ℕ} {cores processes k p n : ℕ} → Running t cores processes k p → n ≡ get_or t (process_at cores p process_progress) 0
-    → n ≡ at_nothing → {r : Reply} → r ≡ four (no_because AWAITED) → Does (step k) t r t
-unfolding progress_numbered
-nothing_in_hand {t} running read e {r} said =
-    does_number (record { running = running; number = read; channel = refl; partner = refl }) r t e (said, refl)
+-- a process that runs with no stage waits for a request
+module _ {t : List ℕ} {cores processes k p n : ℕ} (running : Running t cores processes k p) (read : n ≡ get_or t (process_at cores p process_progress) 0) where
+  reads : Reads t cores processes k p n _ _
+  reads = record { running = running; number = read; channel = refl; partner = refl }
+
+  -- its number is of an outcome, or beyond all
+  pub awaited_due : due_go ≤ n → {r : Said} → r ≡ no_because AWAITED → Does (step k) t r t
+  awaited_due late = does_nothing reads (no_stage t cores p n _ _ late)
+
+  -- or it has nothing in hand
+  pub awaited_nothing : n ≡ at_nothing → {r : Said} → r ≡ no_because AWAITED → Does (step k) t r t
+  unfolding progress_numbered
+  awaited_nothing e = does_nothing reads (rw e tt)

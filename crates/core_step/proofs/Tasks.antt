@@ -1,13 +1,14 @@
 -- What a core does, by the words that are read: a process runs, or it has a kernel task, or none; and what waking comes to.
 use Prim.Native.Nat.{ℕ, ◌≤◌, ◌<◌}
 use mathlib.Core.Path.{◌≡◌, refl, sym, ap, ◌∙◌, subst}
-use mathlib.Core.Bool.{Bool, true, false}
+use mathlib.Core.Bool.{false}
+use Rattle.std.specs.Prelude.{Result, Ok, Err}
 use mathlib.Core.List.{List, [], ◌∷◌}
 use native.Mathlib.Omega.{arith}
 use lib.Dec.{eqb, lit<, lit≤}
 use lib.ListN.{length, get_or}
 use borrow.Author.Tests.{ne_eqb}
-use Rattle.rules.specs.Numbers.{Answer, MOVED, FAULT, yes_with, no_because}
+use Rattle.rules.specs.Numbers.{Said, Answer, MOVED, yes_with, no_because}
 use Rattle.rules.specs.State.{Task, no_task, trigger, wake_up, Work, runs, free}
 use Rattle.rules.specs.Items.{core_of}
 use Rattle.rules.specs.Rule.{Ran, run, done, ◌>>◌}
@@ -17,8 +18,8 @@ use Rattle.rules.specs.CoreStep.{work_step, step}
 use Rattle.rules.specs.Layout.{core_at, core_runs, core_task, core_task_process, task_none, task_trigger, task_wake}
 use Rattle.rules.specs.Packing.{view, work_words, work_numbered, word_of_core}
 use Rattle.rules.proofs.Tests.{within_means}
-use Rattle.answers.specs.Four.{four}
-use Rattle.answers.specs.declared.Reply.{Reply}
+use Rattle.answers.specs.Said.{because}
+use Rattle.answers.specs.declared.Refusal.{Refusal}
 use Rattle.table.specs.Has.{HasCore}
 use Rattle.parts.specs.Does.{Card, Comes, Does}
 use Rattle.parts.specs.Shared.{task_table}
@@ -31,7 +32,7 @@ use Rattle.scheduler.specs.Free.{Free}
 use Rattle.core_step.specs.Running.{Running, Idle, HasTask}
 
 -- the step of a core is that of its work
-does_work : (t : List ℕ) (k : ℕ) (w : Work) → (core_of (view t) k).work ≡ w → (r : Reply) (u : List ℕ)
+does_work : (t : List ℕ) (k : ℕ) (w : Work) → (core_of (view t) k).work ≡ w → (r : Said) (u : List ℕ)
     → Comes (run (work_step k (core_of (view t) k) w) (view t)) t r u → Does (step k) t r u
 does_work t k w e r u h = subst (λ (x : Work). Comes (run (work_step k (core_of (view t) k) x) (view t)) t r u) (sym e) h
 
@@ -72,7 +73,7 @@ module _ {t : List ℕ} {cores processes k task q : ℕ} (has : HasTask t cores 
   pub is_trigger : task ≡ task_trigger → (core_of (view t) k).work ≡ free (trigger q)
   is_trigger e = task_is ∙ ap (λ n. free (task_numbered n q)) e
 
-  pub does_trigger : (r : Reply) (u : List ℕ) → task ≡ task_trigger → Does (trigger_step k q) t r u → Does (step k) t r u
+  pub does_trigger : (r : Said) (u : List ℕ) → task ≡ task_trigger → Does (trigger_step k q) t r u → Does (step k) t r u
   does_trigger r u e h = does_work t k (free (trigger q)) (is_trigger e) r u h
 
   pub is_wake : (task ≡ task_none → ⊥) → (task ≡ task_trigger → ⊥) → Free t cores processes k (wake_up q)
@@ -91,13 +92,13 @@ module _ {t : List ℕ} {cores processes k q : ℕ} (pre : Free t cores processe
       let is = within_means 1 (length (view t).processes) q (work_valid pre.card pre.work) in
       record { card = pre.card; from_one = is.0; inside = subst (λ (n : ℕ). q ≤ n) (sym (processes_are t cores processes k pre.card)) is.1 }
 
-  module _ {woke : Bool} {u : List ℕ} (wakes : Wakes t k q woke u) where
+  module _ {woke : Result (Unit {0}) Refusal} {u : List ℕ} (wakes : Wakes t k q woke u) where
     -- it wasn't asleep
-    pub task_faults : woke ≡ false → {r : Reply} → r ≡ four (no_because FAULT) → Does (step k) t r u
-    task_faults was {r} said = does_work t k _ pre.work r u (not_woken can_wake wakes was (has_task k no_task >> done MOVED) said)
+    pub task_faults : {why : Refusal} → woke ≡ Err why → {r : Said} → r ≡ no_because (because why) → Does (step k) t r u
+    task_faults was {r} told = does_work t k _ pre.work r u (not_woken can_wake wakes was (has_task k no_task >> done MOVED) told)
 
     -- it was, and the task is over
-    pub task_over : woke ≡ true → {r : Reply} {v : List ℕ} → v ≡ task_table u k task_none 0 → r ≡ four (yes_with MOVED) → Does (step k) t r v
+    pub task_over : woke ≡ Ok tt → {r : Said} {v : List ℕ} → v ≡ task_table u k task_none 0 → r ≡ yes_with MOVED → Does (step k) t r v
     task_over was {r} {v} written said =
         does_work t k _ pre.work r v
         (subst (λ (x : Ran Answer). Comes x t r v) (sym (goes.rest_runs (has_task k no_task >> done MOVED)))

@@ -20,6 +20,11 @@ pub record Reads (t : List ℕ) (cores processes k p n c q : ℕ) : Type 0 where
   pub channel : c ≡ get_or t (process_at cores p process_channel) 0
   pub partner : q ≡ get_or t (process_at cores p process_partner) 0
 
+-- and it has this number
+abbrev pub IsAt : List ℕ → (cores processes k p n : ℕ) → Type 0
+IsAt t cores processes k p n =
+    Reads t cores processes k p n (get_or t (process_at cores p process_channel) 0) (get_or t (process_at cores p process_partner) 0)
+
 -- nothing runs on core k
 pub record Idle (t : List ℕ) (cores processes k : ℕ) : Type 0 where
   pub card : Card t cores processes k

@@ -1,118 +1,125 @@
 // A step: the next atomic step of a core, on a sound table (document 01).
 #![tactic(auto)]
 
-ghost use Rattle.std.specs.Prelude.{◌≤◌};
 ghost use Rattle.rules.specs.State.{wake_up};
-ghost use Rattle.rules.specs.Layout.{at_send_look};
 ghost use Rattle.rules.specs.CoreStep.{step};
+ghost use Rattle.layout.specs.Numbers.{which, of_way, exchange_number, choice_number};
+ghost use Rattle.answers.specs.Said.{said};
 ghost use Rattle.parts.specs.Does.{Card, Does};
 ghost use Rattle.scheduler.specs.Free.{Free};
-ghost use Rattle.core_step.specs.Running.{Running, Reads, Idle, HasTask};
+ghost use Rattle.core_step.specs.Running.{Running, Reads, IsAt, Idle, HasTask};
 
-use answers::Reply;
-use layout::{
-    AT_DISABLE, AT_ENABLE_LOOK, AT_FINISH, AT_LOWER, AT_PLACE_NAME, AT_RAISE, AT_READY_FROM_LOOK,
-    AT_READY_FROM_PLACE, AT_RECEIVE_CLEAR, AT_RECEIVE_COPY, AT_RECEIVE_LOOK, AT_RECEIVE_PARK,
-    AT_RECEIVE_WAKE, AT_SEND_CLEAR, AT_SEND_COPY, AT_SEND_LOOK, AT_SEND_PARK, AT_SEND_WAKE,
-    AT_WAIT,
-};
-use parts::Way;
+use answers::{Answer, Refusal, Reply};
+use layout::TaskKind;
+use layout::progress::{Choice, Exchange, Progress, Way};
+use parts::Task;
+use table::{Core, Process, Record, Sizes};
 
-// The stage of number n, with the channel c and the partner q; AWAITED where no stage has that number.
-fn stage_step(
+// A stage of send or receive, with the channel c and the partner q.
+fn exchange_step(
     t: &mut [u32],
-    cores: usize,
-    processes: usize,
-    k: usize,
-    p: u32,
-    n: u32,
+    core: Core,
+    p: Process,
+    way: Way,
+    stage: Exchange,
     c: u32,
     q: u32,
 ) -> Reply
-    requires reads { Reads t.old cores processes k p n c q }
-    requires a_stage { at_send_look ≤ n }
-    ensures { Does (step k) t.old result t.new }
+    requires { Reads t.old p.sizes.cores p.sizes.processes core.0 p.number (of_way (which way) (exchange_number stage)) c q }
+    ensures { Does (step core.0) t.old (said result) t.new }
 {
-    match n {
-        AT_SEND_LOOK => steps::look_step(t, cores, processes, k, p, Way::Sending, c),
-        AT_SEND_PARK => steps::park_step(t, cores, processes, k, p, Way::Sending, c),
-        AT_SEND_COPY => steps::copy_step(t, cores, processes, k, p, Way::Sending, c, q),
-        AT_SEND_CLEAR => steps::clear_step(t, cores, processes, k, p, Way::Sending, c, q),
-        AT_SEND_WAKE => steps::wake_step(t, cores, processes, k, p, Way::Sending, c, q),
-        AT_RECEIVE_LOOK => steps::look_step(t, cores, processes, k, p, Way::Receiving, c),
-        AT_RECEIVE_PARK => steps::park_step(t, cores, processes, k, p, Way::Receiving, c),
-        AT_RECEIVE_COPY => steps::copy_step(t, cores, processes, k, p, Way::Receiving, c, q),
-        AT_RECEIVE_CLEAR => steps::clear_step(t, cores, processes, k, p, Way::Receiving, c, q),
-        AT_RECEIVE_WAKE => steps::wake_step(t, cores, processes, k, p, Way::Receiving, c, q),
-        AT_ENABLE_LOOK => enabling::enable_look_step(t, cores, processes, k, p),
-        AT_RAISE => enabling::raise_step(t, cores, processes, k, p),
-        AT_PLACE_NAME => enabling::place_name_step(t, cores, processes, k, p),
-        AT_READY_FROM_LOOK => enabling::ready_from_look_step(t, cores, processes, k, p),
-        AT_READY_FROM_PLACE => enabling::ready_from_place_step(t, cores, processes, k, p),
-        AT_WAIT => choice::wait_step(t, cores, processes, k, p),
-        AT_DISABLE => choice::disable_step(t, cores, processes, k, p),
-        AT_LOWER => choice::lower_step(t, cores, processes, k, p),
-        AT_FINISH => choice::finish_step(t, cores, processes, k, p),
-        _ => answers::refused(answers::AWAITED),
+    match stage {
+        Exchange::Look => steps::look_step(t, core, p, way, c),
+        Exchange::Park => steps::park_step(t, core, p, way, c),
+        Exchange::Copy => steps::copy_step(t, core, p, way, c, q),
+        Exchange::Clear => steps::clear_step(t, core, p, way, c, q),
+        Exchange::Wake => steps::wake_step(t, core, p, way, c, q),
     }
 }
 
-// The running process p: the stage of its request; AWAITED where it has nothing in hand.
-fn running_step(t: &mut [u32], cores: usize, processes: usize, k: usize, p: u32) -> Reply
-    requires { Running t.old cores processes k p }
-    ensures { Does (step k) t.old result t.new }
+// A stage of choose.
+fn choice_step(t: &mut [u32], core: Core, p: Process, stage: Choice) -> Reply
+    requires { IsAt t.old p.sizes.cores p.sizes.processes core.0 p.number (choice_number stage) }
+    ensures { Does (step core.0) t.old (said result) t.new }
 {
-    let n = table::process_word(t, cores, p, layout::PROCESS_PROGRESS);
-    let c = table::process_word(t, cores, p, layout::PROCESS_CHANNEL);
-    let q = table::process_word(t, cores, p, layout::PROCESS_PARTNER);
-    if n == layout::AT_NOTHING {
-        return answers::refused(answers::AWAITED);
+    match stage {
+        Choice::EnableLook => enabling::enable_look_step(t, core, p),
+        Choice::Raise => enabling::raise_step(t, core, p),
+        Choice::PlaceName => enabling::place_name_step(t, core, p),
+        Choice::ReadyFromLook => enabling::ready_from_look_step(t, core, p),
+        Choice::ReadyFromPlace => enabling::ready_from_place_step(t, core, p),
+        Choice::Wait => choice::wait_step(t, core, p),
+        Choice::Disable => choice::disable_step(t, core, p),
+        Choice::Lower => choice::lower_step(t, core, p),
+        Choice::Finish => choice::finish_step(t, core, p),
     }
-    stage_step(t, cores, processes, k, p, n, c, q)
+}
+
+// The running process p: the stage of its request; AWAITED where it has none.
+fn running_step(t: &mut [u32], core: Core, p: Process) -> Reply
+    requires { Running t.old p.sizes.cores p.sizes.processes core.0 p.number }
+    ensures { Does (step core.0) t.old (said result) t.new }
+{
+    let number = p.word(t, layout::PROCESS_PROGRESS);
+    match Progress::try_from(number) {
+        Ok(Progress::Exchanging(way, stage)) => {
+            let c = p.word(t, layout::PROCESS_CHANNEL);
+            let q = p.word(t, layout::PROCESS_PARTNER);
+            exchange_step(t, core, p, way, stage, c, q)
+        }
+        Ok(Progress::Choosing(stage)) => choice_step(t, core, p, stage),
+        _ => Err(Refusal::Awaited),
+    }
 }
 
 // Wake q, a kernel task: the core wakes q, and the task is over.
-fn wake_task_step(t: &mut [u32], cores: usize, processes: usize, k: usize, q: u32) -> Reply
-    requires { Free t.old cores processes k (wake_up q) }
-    ensures { Does (step k) t.old result t.new }
+fn wake_task_step(t: &mut [u32], core: Core, q: Process) -> Reply
+    requires { Free t.old q.sizes.cores q.sizes.processes core.0 (wake_up q.number) }
+    ensures { Does (step core.0) t.old (said result) t.new }
 {
-    if steps::wakes(t, cores, processes, k, q) {
-        parts::has_task(t, k, layout::TASK_NONE, 0);
-        return answers::moved();
-    }
-    answers::refused(answers::FAULT)
+    steps::wakes(t, core, q)?;
+    parts::has_task(t, core, Task::None);
+    Ok(Answer::Moved)
 }
 
-// The kernel task of number task, of process q; the scheduler where there is none.
-fn task_step(t: &mut [u32], cores: usize, processes: usize, k: usize, task: u32, q: u32) -> Reply
-    requires { HasTask t.old cores processes k task q }
-    ensures { Does (step k) t.old result t.new }
+// The kernel task of this number, of process q; the scheduler where there is none.
+fn task_step(t: &mut [u32], core: Core, task: u32, q: Process) -> Reply
+    requires { HasTask t.old q.sizes.cores q.sizes.processes core.0 task q.number }
+    ensures { Does (step core.0) t.old (said result) t.new }
 {
-    match task {
-        layout::TASK_NONE => scheduler::schedule(t, cores, processes, k),
-        layout::TASK_TRIGGER => choice::trigger_step(t, cores, processes, k, q),
-        _ => wake_task_step(t, cores, processes, k, q),
+    if task == TaskKind::None as u32 {
+        scheduler::schedule(t, q.sizes, core)
+    } else if task == TaskKind::Trigger as u32 {
+        choice::trigger_step(t, core, q)
+    } else {
+        wake_task_step(t, core, q)
     }
 }
 
-// Nothing runs on core k: the task that it has.
-fn free_step(t: &mut [u32], cores: usize, processes: usize, k: usize) -> Reply
-    requires { Idle t.old cores processes k }
-    ensures { Does (step k) t.old result t.new }
+// Nothing runs on the core: the task that it has.
+fn free_step(t: &mut [u32], sizes: Sizes, core: Core) -> Reply
+    requires { Idle t.old sizes.cores sizes.processes core.0 }
+    ensures { Does (step core.0) t.old (said result) t.new }
 {
-    let task = table::core_word(t, k, layout::CORE_TASK);
-    let q = table::core_word(t, k, layout::CORE_TASK_PROCESS);
-    task_step(t, cores, processes, k, task, q)
+    let task = core.word(t, layout::CORE_TASK);
+    let q = Process {
+        sizes,
+        number: core.word(t, layout::CORE_TASK_PROCESS),
+    };
+    task_step(t, core, task, q)
 }
 
-// The next atomic step of core k.
-pub fn step(t: &mut [u32], cores: usize, processes: usize, k: usize) -> Reply
-    requires { Card t.old cores processes k }
-    ensures { Does (step k) t.old result t.new }
+// The next atomic step of the core.
+pub fn step(t: &mut [u32], sizes: Sizes, core: Core) -> Reply
+    requires { Card t.old sizes.cores sizes.processes core.0 }
+    ensures { Does (step core.0) t.old (said result) t.new }
 {
-    let p = table::core_word(t, k, layout::CORE_RUNS);
-    if p == 0 {
-        return free_step(t, cores, processes, k);
+    let p = Process {
+        sizes,
+        number: core.word(t, layout::CORE_RUNS),
+    };
+    if p.number == 0 {
+        return free_step(t, sizes, core);
     }
-    running_step(t, cores, processes, k, p)
+    running_step(t, core, p)
 }
