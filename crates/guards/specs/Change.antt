@@ -1,10 +1,9 @@
 -- What the code says becomes of a count, as a rule.
-use Rattle.std.specs.Prelude.{ℕ}
-use Rattle.rules.specs.Numbers.{FAULT}
+use Rattle.std.specs.Prelude.{ℕ, Result, Ok, Err}
 use Rattle.rules.specs.Rule.{Rule, done, refuse}
-use Rattle.guards.specs.declared.Change.{Change}
-use Rattle.guards.specs.declared.Change.TheVariants.{Fault, To}
+use Rattle.answers.specs.Said.{because}
+use Rattle.answers.specs.declared.Refusal.{Refusal}
 
-abbrev pub changes : Change → Rule ℕ
-changes Fault = refuse FAULT
-changes (To n) = done n
+abbrev pub changes : Result ℕ Refusal → Rule ℕ
+changes (Ok n) = done n
+changes (Err why) = refuse (because why)

@@ -10,8 +10,7 @@ use Rattle.rules.specs.Layout.{process_guards, process_index, process_first_read
 use Rattle.rules.specs.Layout.{at_enable_look, at_wait}
 use Rattle.rules.specs.Packing.{ready_numbered}
 use Rattle.table.specs.Has.{HasProcess, HasChannel}
-use Rattle.answers.specs.declared.Reply.{Reply}
-use Rattle.parts.specs.Does.{At, Does}
+use Rattle.parts.specs.Does.{Reply, At, Does}
 
 -- the word f of process p, among as many cores
 abbrev pub word_of : List ℕ → ℕ → ℕ → ℕ → ℕ

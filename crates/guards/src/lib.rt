@@ -5,107 +5,106 @@ ghost use Rattle.std.specs.Prelude.{◌≡◌, ◌+◌, ◌≤◌, ◌<◌, leng
 ghost use Rattle.rules.specs.Numbers.{MOVED, yes_with};
 ghost use Rattle.rules.specs.Choice.{lowered, raised};
 ghost use Rattle.rules.specs.Layout.{process_at};
-ghost use Rattle.answers.specs.Four.{four};
+ghost use Rattle.layout.specs.Numbers.{choice_number};
+ghost use Rattle.answers.specs.Said.{said};
 ghost use Rattle.table.specs.Has.{HasProcess};
 ghost use Rattle.guards.specs.Change.{changes};
 ghost use Rattle.guards.specs.Read.{word_of, guard_place, guard_at, guard_word_at, AtGuard};
 ghost use Rattle.guards.specs.Read.{stage_table, next_table};
 
-use answers::Reply;
-
-// What becomes of a count: a fault, or another count.
-#[derive(Clone, Copy)]
-pub enum Change {
-    Fault,
-    To(u32),
-}
+use answers::{Answer, Refusal, Reply};
+use layout::progress::Choice;
+use table::{Channel, Process, Record};
 
 // Lowers a count: count - 1; at 0 a fault.
-pub fn lowered(count: u32) -> Change
+pub fn lowered(count: u32) -> Result<u32, Refusal>
     ensures { changes result ≡ lowered count }
 {
-    if count == 0 {
-        return Change::Fault;
-    }
-    Change::To(count - 1)
+    count.checked_sub(1).ok_or(Refusal::Fault)
 }
 
 // Raises a count: count + 1; at 9 a fault.
-pub fn raised(count: u32) -> Change
+pub fn raised(count: u32) -> Result<u32, Refusal>
     requires { count ≤ 9 }
     ensures { changes result ≡ raised count }
 {
     if count == 9 {
-        return Change::Fault;
+        return Err(Refusal::Fault);
     }
-    Change::To(count + 1)
+    Ok(count + 1)
 }
 
 // The guard at index i, counted from 1.
-pub fn guard(t: &[u32], cores: usize, p: u32, i: u32) -> u32
-    requires { (1 ≤ p) × (process_at cores p (guard_place i) < length t.now) }
-    ensures { result ≡ word_of t.now cores p (guard_place i) }
+pub fn guard(t: &[u32], p: Process, i: u32) -> u32
+    requires { (1 ≤ p.number) × (process_at p.sizes.cores p.number (guard_place i) < length t.now) }
+    ensures { result ≡ word_of t.now p.sizes.cores p.number (guard_place i) }
 {
-    table::process_word(t, cores, p, layout::PROCESS_FIRST_GUARD - 1 + i as usize)
+    p.word(t, layout::PROCESS_FIRST_GUARD - 1 + i as usize)
 }
 
 // The channel of the guard that the choice has come to.
-pub fn guard_now(t: &[u32], cores: usize, processes: usize, p: u32) -> u32
-    requires { AtGuard t.now cores processes p }
-    ensures { result ≡ guard_at t.now cores p }
+pub fn guard_now(t: &[u32], p: Process) -> u32
+    requires { AtGuard t.now p.sizes.cores p.sizes.processes p.number }
+    ensures { result ≡ guard_at t.now p.sizes.cores p.number }
 {
-    let i = table::process_word(t, cores, p, layout::PROCESS_INDEX);
-    guard(t, cores, p, i)
+    guard(t, p, p.word(t, layout::PROCESS_INDEX))
 }
 
 // The word of that channel.
-pub fn guard_word(t: &[u32], cores: usize, processes: usize, p: u32) -> u32
-    requires { AtGuard t.now cores processes p }
-    ensures { result ≡ get_or t.now (guard_word_at t.now cores processes p) 0 }
+pub fn guard_word(t: &[u32], p: Process) -> u32
+    requires { AtGuard t.now p.sizes.cores p.sizes.processes p.number }
+    ensures { result ≡ get_or t.now (guard_word_at t.now p.sizes.cores p.sizes.processes p.number) 0 }
 {
-    let c = guard_now(t, cores, processes, p);
-    table::channel_word(t, cores, processes, c, layout::CHANNEL_HOLDER)
+    let c = Channel {
+        sizes: p.sizes,
+        number: guard_now(t, p),
+    };
+    c.word(t, layout::CHANNEL_HOLDER)
 }
 
 // That word becomes v.
-pub fn set_guard_word(t: &mut [u32], cores: usize, processes: usize, p: u32, v: u32)
-    requires { AtGuard t.old cores processes p }
-    ensures { t.new ≡ set t.old (guard_word_at t.old cores processes p) v }
+pub fn set_guard_word(t: &mut [u32], p: Process, v: u32)
+    requires { AtGuard t.old p.sizes.cores p.sizes.processes p.number }
+    ensures { t.new ≡ set t.old (guard_word_at t.old p.sizes.cores p.sizes.processes p.number) v }
 {
-    let c = guard_now(t, cores, processes, p);
-    table::set_channel_word(t, cores, processes, c, layout::CHANNEL_HOLDER, v);
+    let c = Channel {
+        sizes: p.sizes,
+        number: guard_now(t, p),
+    };
+    c.set(t, layout::CHANNEL_HOLDER, v);
 }
 
-// Process p is at the guard of number g, in the stage of number n.
-pub fn set_stage(t: &mut [u32], cores: usize, p: u32, g: u32, n: u32)
-    requires { HasProcess t.old cores p }
-    ensures { t.new ≡ stage_table t.old cores p g n }
+// Process p is at the guard of number g, at this stage.
+pub fn set_stage(t: &mut [u32], p: Process, g: u32, stage: Choice)
+    requires { HasProcess t.old p.sizes.cores p.number }
+    ensures { t.new ≡ stage_table t.old p.sizes.cores p.number g (choice_number stage) }
 {
-    table::set_process_word(t, cores, p, layout::PROCESS_INDEX, g);
-    table::set_process_word(t, cores, p, layout::PROCESS_PROGRESS, n);
+    p.set(t, layout::PROCESS_INDEX, g);
+    p.set(t, layout::PROCESS_PROGRESS, stage as u32);
 }
 
 // The choice goes on there.
-pub fn goes_on(t: &mut [u32], cores: usize, p: u32, g: u32, n: u32) -> Reply
-    requires { HasProcess t.old cores p }
-    ensures table { t.new ≡ stage_table t.old cores p g n }
-    ensures reply { result ≡ four (yes_with MOVED) }
+pub fn goes_on(t: &mut [u32], p: Process, g: u32, stage: Choice) -> Reply
+    requires { HasProcess t.old p.sizes.cores p.number }
+    ensures table { t.new ≡ stage_table t.old p.sizes.cores p.number g (choice_number stage) }
+    ensures reply { said result ≡ yes_with MOVED }
 {
-    set_stage(t, cores, p, g, n);
-    answers::moved()
+    set_stage(t, p, g, stage);
+    Ok(Answer::Moved)
 }
 
-// The next guard, at the stage of number `again`; after the last guard the stage of number `after`.
-pub fn next_guard(t: &mut [u32], cores: usize, p: u32, again: u32, after: u32) -> Reply
-    requires { HasProcess t.old cores p }
-    ensures table { t.new ≡ next_table t.old cores p again after }
-    ensures reply { result ≡ four (yes_with MOVED) }
+// The next guard, at the stage `again`; after the last guard the stage `after`.
+#[tactic(auto, unfolding(crate::specs::Read::next_table))]
+pub fn next_guard(t: &mut [u32], p: Process, again: Choice, after: Choice) -> Reply
+    requires { HasProcess t.old p.sizes.cores p.number }
+    ensures table { t.new ≡ next_table t.old p.sizes.cores p.number (choice_number again) (choice_number after) }
+    ensures reply { said result ≡ yes_with MOVED }
 {
-    let guards = table::process_word(t, cores, p, layout::PROCESS_GUARDS);
-    let i = table::process_word(t, cores, p, layout::PROCESS_INDEX);
+    let guards = p.word(t, layout::PROCESS_GUARDS);
+    let i = p.word(t, layout::PROCESS_INDEX);
     if i < guards {
-        goes_on(t, cores, p, i + 1, again)
+        goes_on(t, p, i + 1, again)
     } else {
-        goes_on(t, cores, p, 0, after)
+        goes_on(t, p, 0, after)
     }
 }
