@@ -5,23 +5,19 @@ use mathlib.Core.Bool.{false}
 use mathlib.Core.List.{List, [], ◌∷◌}
 use mathlib.Core.Option.{none}
 use lib.ListN.{get_or, set}
-use Rattle.rules.specs.Numbers.{Answer, MOVED, FAULT, yes_with, no_because}
+use Rattle.rules.specs.Numbers.{Answer, Refusal, Said, MOVED, yes_with, no_because}
 use Rattle.rules.specs.State.{enable_look, raise, place_name, ready_from_look, ready_from_place, wait, doing, Alternation, ChannelWord, nobody}
 use Rattle.rules.specs.State.{plain, choosing, State}
 use Rattle.rules.specs.Items.{process_of, channel_of, put, alternation, progress}
-use Rattle.rules.specs.Rule.{Rule, run, becomes, ◌>>◌}
+use Rattle.rules.specs.Rule.{Rule, done, refuse, run, becomes, ◌>>◌}
 use Rattle.rules.specs.Steps.{next}
 use Rattle.rules.specs.Choice.{guard, counting, flags, enable_next, after_enable_look, enable_look_step, name_placed, place_name_step, raise_step}
 use Rattle.rules.specs.Choice.{ready_from_look_step, ready_from_place_step, lowered, raised}
 use Rattle.rules.specs.Layout.{process_at, channel_at, at_enable_look, at_place_name, at_raise, at_ready_from_look, at_ready_from_place}
 use Rattle.rules.specs.Layout.{at_wait, channel_holder, process_count, process_not_ready, process_progress}
 use Rattle.rules.specs.Packing.{of_choice, progress_words, pack, view, word_number}
-use Rattle.answers.specs.Four.{four}
-use Rattle.answers.specs.declared.Reply.{Reply}
 use Rattle.parts.specs.Does.{At, Comes, Does}
 use Rattle.parts.proofs.Card.{facts}
-use Rattle.guards.specs.declared.Change.TheVariants.{Fault, To}
-use Rattle.guards.specs.Change.{changes}
 use Rattle.guards.specs.Read.{count_at, counted_table, guard_word_at, AtGuard, next_table, ready_table}
 use Rattle.guards.proofs.Guards.{in_alternation, Chooses, count_is, same_guard, next_packs, alternation_chooses, word_chooses}
 use Rattle.guards.proofs.Rules.{by_count}
@@ -45,7 +41,7 @@ module _ {t : List ℕ} {cores processes k p : ℕ} {gs : List ℕ} {i : ℕ} wh
     look_guard = has_guard look_stands
 
     -- the word is nobody's
-    pub look_free : {r : Reply} {u : List ℕ} → get_or t (guard_word_at t cores processes p) 0 ≡ 0 → r ≡ four (yes_with MOVED)
+    pub look_free : {r : Said} {u : List ℕ} → get_or t (guard_word_at t cores processes p) 0 ≡ 0 → r ≡ yes_with MOVED
         → u ≡ set t (process_at cores p process_progress) at_raise → Does (enable_look_step p gs i) t r u
     unfolding progress_words
     look_free e a b = (a, b ∙ same_guard look_stands.chooses (after_enable_look gs i (channel_of (view t) (guard gs i)).word) at_raise words)
@@ -54,7 +50,7 @@ module _ {t : List ℕ} {cores processes k p : ℕ} {gs : List ℕ} {i : ℕ} wh
         words = rw (free_word look_stands e)
 
     -- it is somebody's
-    pub look_held : {r : Reply} {u : List ℕ} → (get_or t (guard_word_at t cores processes p) 0 ≡ 0 → ⊥) → r ≡ four (yes_with MOVED)
+    pub look_held : {r : Said} {u : List ℕ} → (get_or t (guard_word_at t cores processes p) 0 ≡ 0 → ⊥) → r ≡ yes_with MOVED
         → u ≡ set t (process_at cores p process_progress) at_ready_from_look → Does (enable_look_step p gs i) t r u
     unfolding progress_words
     look_held ne a b = (
@@ -84,15 +80,15 @@ module _ {t : List ℕ} {cores processes k p : ℕ} {gs : List ℕ} {i : ℕ} wh
     abbrev raising : ℕ → Rule Answer
     raising n = becomes alternation p (counting n (process_of (view t) p).alternation) >> next p (place_name gs i)
 
-    pub raise_fault : {r : Reply} {u : List ℕ} → changes Fault ≡ raised (count_at t cores p) → r ≡ four (no_because FAULT) → u ≡ t
+    pub raise_fault : {x : Refusal} {r : Said} {u : List ℕ} → refuse x ≡ raised (count_at t cores p) → r ≡ no_because x → u ≡ t
         → Does (raise_step p gs i) t r u
-    raise_fault {r} {u} made a b = by_count raise_stands.chooses.packs p raise_stands.chooses.among raised raising Fault made r u (a, b)
+    raise_fault {x} {r} {u} made a b = by_count raise_stands.chooses.packs p raise_stands.chooses.among raised raising (refuse x) made r u (a, b)
 
-    pub raise_done : {n : ℕ} {r : Reply} {u : List ℕ} → changes (To n) ≡ raised (count_at t cores p) → r ≡ four (yes_with MOVED)
+    pub raise_done : {n : ℕ} {r : Said} {u : List ℕ} → done n ≡ raised (count_at t cores p) → r ≡ yes_with MOVED
         → u ≡ set (counted_table t cores p n) (process_at cores p process_progress) at_place_name → Does (raise_step p gs i) t r u
     unfolding progress_words
     raise_done {n} {r} {u} made a b =
-        by_count raise_stands.chooses.packs p raise_stands.chooses.among raised raising (To n) made r u (
+        by_count raise_stands.chooses.packs p raise_stands.chooses.among raised raising (done n) made r u (
           a,
           b ∙ same_guard (alternation_chooses raise_stands.chooses (counting n (process_of (view t) p).alternation)
               ((in_alternation process_count, n) ∷ []) tt refl) (place_name gs i) at_place_name refl,
@@ -112,7 +108,7 @@ module _ {t : List ℕ} {cores processes k p : ℕ} {gs : List ℕ} {i : ℕ} wh
     place_small = number_small place_stands
 
     -- the word is nobody's
-    pub place_free : {r : Reply} {u : List ℕ} → get_or t (guard_word_at t cores processes p) 0 ≡ 0 → r ≡ four (yes_with MOVED)
+    pub place_free : {r : Said} {u : List ℕ} → get_or t (guard_word_at t cores processes p) 0 ≡ 0 → r ≡ yes_with MOVED
         → u ≡ next_table (set t (guard_word_at t cores processes p) (word_number (choosing p))) cores p at_enable_look at_wait
         → Does (place_name_step p gs i) t r u
     place_free {r} {u} e a b =
@@ -125,7 +121,7 @@ module _ {t : List ℕ} {cores processes k p : ℕ} {gs : List ℕ} {i : ℕ} wh
         )
 
     -- it is somebody's
-    pub place_held : {r : Reply} {u : List ℕ} → (get_or t (guard_word_at t cores processes p) 0 ≡ 0 → ⊥) → r ≡ four (yes_with MOVED)
+    pub place_held : {r : Said} {u : List ℕ} → (get_or t (guard_word_at t cores processes p) 0 ≡ 0 → ⊥) → r ≡ yes_with MOVED
         → u ≡ set t (process_at cores p process_progress) at_ready_from_place → Does (place_name_step p gs i) t r u
     unfolding progress_words
     place_held {r} {u} ne a b = cases (channel_of (view t) (guard gs i)).word (λ e. ne (word_is place_stands ∙ e))
@@ -145,7 +141,7 @@ module _ {t : List ℕ} {cores processes k p : ℕ} {gs : List ℕ} {i : ℕ} wh
     unfolding progress_words
     ready_look_stands = enabling_stands at refl refl
 
-    pub ready_look_done : {r : Reply} {u : List ℕ} → r ≡ four (yes_with MOVED)
+    pub ready_look_done : {r : Said} {u : List ℕ} → r ≡ yes_with MOVED
         → u ≡ ready_table t cores p → Does (ready_from_look_step p gs i) t r u
     ready_look_done a b =
         let alt = (process_of (view t) p).alternation in (
@@ -167,15 +163,15 @@ module _ {t : List ℕ} {cores processes k p : ℕ} {gs : List ℕ} {i : ℕ} wh
     abbrev readying : ℕ → Rule Answer
     readying n = becomes alternation p (readied n) >> next p (enable_next gs i)
 
-    pub ready_place_fault : {r : Reply} {u : List ℕ} → changes Fault ≡ lowered (count_at t cores p) → r ≡ four (no_because FAULT) → u ≡ t
+    pub ready_place_fault : {x : Refusal} {r : Said} {u : List ℕ} → refuse x ≡ lowered (count_at t cores p) → r ≡ no_because x → u ≡ t
         → Does (ready_from_place_step p gs i) t r u
-    ready_place_fault {r} {u} made a b =
-        by_count ready_place_stands.chooses.packs p ready_place_stands.chooses.among lowered readying Fault made r u (a, b)
+    ready_place_fault {x} {r} {u} made a b =
+        by_count ready_place_stands.chooses.packs p ready_place_stands.chooses.among lowered readying (refuse x) made r u (a, b)
 
-    pub ready_place_done : {n : ℕ} {r : Reply} {u : List ℕ} → changes (To n) ≡ lowered (count_at t cores p) → r ≡ four (yes_with MOVED)
+    pub ready_place_done : {n : ℕ} {r : Said} {u : List ℕ} → done n ≡ lowered (count_at t cores p) → r ≡ yes_with MOVED
         → u ≡ ready_table (counted_table t cores p n) cores p → Does (ready_from_place_step p gs i) t r u
     ready_place_done {n} {r} {u} made a b =
-        by_count ready_place_stands.chooses.packs p ready_place_stands.chooses.among lowered readying (To n) made r u (
+        by_count ready_place_stands.chooses.packs p ready_place_stands.chooses.among lowered readying (done n) made r u (
           a,
           b ∙ enabled_packs (alternation_chooses ready_place_stands.chooses (readied n)
               ((in_alternation process_count, n) ∷ (in_alternation process_not_ready, 0) ∷ []) tt refl),

@@ -1,13 +1,13 @@
 -- What a rule comes to that reads a count or a channel word, by the number in the table.
-use Rattle.std.specs.Prelude.{if◌then◌else◌, Result}
+use Rattle.std.specs.Prelude.{if◌then◌else◌}
 use Prim.Native.Nat.{ℕ, ◌≤◌}
-use mathlib.Core.Path.{◌≡◌, refl, sym, ap, ◌∙◌, subst}
+use mathlib.Core.Path.{◌≡◌, refl, ap, ◌∙◌, subst}
 use mathlib.Core.List.{List}
 use mathlib.Core.Option.{Option, none, some}
 use native.Mathlib.Omega.{arith}
 use lib.Dec.{T, eqb, lit<}
 use lib.ListN.{length}
-use Rattle.rules.specs.Numbers.{Answer, FAULT, no_because}
+use Rattle.rules.specs.Numbers.{Answer, Said, FAULT, no_because}
 use Rattle.rules.specs.State.{ChannelWord, nobody, plain, choosing, State, Wiring}
 use Rattle.rules.specs.Rule.{Rule, run, ◌>>=◌}
 use Rattle.rules.specs.Choice.{guard, keep_first, first_ready}
@@ -16,11 +16,8 @@ use Rattle.rules.specs.Layout.{process_count}
 use Rattle.rules.specs.Packing.{word_number, ready_number}
 use Rattle.rules.specs.Soundness.{ready_in_list, valid_word}
 use Rattle.rules.proofs.Tests.{within_means, not_zero}
-use Rattle.answers.specs.Said.{said}
-use Rattle.answers.specs.declared.Refusal.{Refusal}
-use Rattle.parts.specs.Does.{Reply, Comes}
+use Rattle.parts.specs.Does.{Comes}
 use Rattle.parts.proofs.Packs.{Packs, IsProcess, process_read}
-use Rattle.guards.specs.Change.{changes}
 use Rattle.guards.specs.Read.{count_at}
 
 -- a valid channel word of number 0 is nobody's
@@ -41,19 +38,16 @@ pub kept_number : (gs : List ℕ) (r : Option ℕ) (i : ℕ) → T (ready_in_lis
 kept_number gs none i h = refl
 kept_number gs (some j) i h = rw (not_zero j (within_means 1 (length gs) j h).0)
 
--- What becomes of the count that the code reads as m becomes of n, and so of the count of process p.
-pub now_changes : {found to : Result ℕ Refusal} {m n : ℕ} (rule : ℕ → Rule ℕ) → found ≡ to → m ≡ n → changes found ≡ rule m → changes to ≡ rule n
-now_changes rule finds reads made = sym (ap changes finds) ∙ made ∙ ap rule reads
-
+-- What a rule makes of the count in the table it makes of the count of process p.
 pub by_count : {t : List ℕ} {cores processes : ℕ} {s : State} → Packs t cores processes s → (p : ℕ) → IsProcess s p
-    → (rule : ℕ → Rule ℕ) (f : ℕ → Rule Answer) (to : Result ℕ Refusal) → changes to ≡ rule (count_at t cores p) → (r : Reply) (u : List ℕ)
-    → Comes (run (changes to >>= f) s) t r u → Comes (run (rule (process_of s p).alternation.count >>= f) s) t r u
+    → (rule : ℕ → Rule ℕ) (f : ℕ → Rule Answer) (to : Rule ℕ) → to ≡ rule (count_at t cores p) → (r : Said) (u : List ℕ)
+    → Comes (run (to >>= f) s) t r u → Comes (run (rule (process_of s p).alternation.count >>= f) s) t r u
 by_count {t} {s = s} packs p is rule f to made r u =
     subst (λ (x : Rule ℕ). Comes (run (x >>= f) s) t r u) (made ∙ ap rule (process_read packs p is process_count (lit< tt)))
 
-module _ (s : State) (t : List ℕ) (f : ℕ → Rule Answer) (r : Reply) (u : List ℕ) where
+module _ (s : State) (t : List ℕ) (f : ℕ → Rule Answer) (r : Said) (u : List ℕ) where
   -- no guard is ready
-  pub first_fault : (gs : List ℕ) (x : Option ℕ) → T (ready_in_list gs x) → ready_number x ≡ 0 → said r ≡ no_because FAULT → u ≡ t
+  pub first_fault : (gs : List ℕ) (x : Option ℕ) → T (ready_in_list gs x) → ready_number x ≡ 0 → r ≡ no_because FAULT → u ≡ t
       → Comes (run (first_ready gs x >>= f) s) t r u
   first_fault gs none h e a b = (a, b)
   first_fault gs (some i) h e a b = let range = within_means 1 (length gs) i h in absurd (omega arith)

@@ -2,7 +2,7 @@
 use Rattle.std.specs.Prelude.{ℕ, ◌+◌, ◌-◌, ◌<◌, List, eqb, ltb, length, get_or, set, take, if◌then◌else◌}
 use Rattle.std.proofs.Math.Option.{Option}
 use Rattle.rules.specs.Lists.{tabulate}
-use Rattle.rules.specs.Numbers.{Answer}
+use Rattle.rules.specs.Numbers.{Answer, Said}
 use Rattle.rules.specs.State.{Stage}
 use Rattle.rules.specs.Rule.{Rule}
 use Rattle.rules.specs.Layout.{process_at, channel_at, process_enabling, process_not_ready, process_waiting, process_count, process_progress}
@@ -10,7 +10,7 @@ use Rattle.rules.specs.Layout.{process_guards, process_index, process_first_read
 use Rattle.rules.specs.Layout.{at_enable_look, at_wait}
 use Rattle.rules.specs.Packing.{ready_numbered}
 use Rattle.table.specs.Has.{HasProcess, HasChannel}
-use Rattle.parts.specs.Does.{Reply, At, Does}
+use Rattle.parts.specs.Does.{At, Does}
 
 -- the word f of process p, among as many cores
 abbrev pub word_of : List ℕ → ℕ → ℕ → ℕ → ℕ
@@ -46,18 +46,18 @@ pub record AtGuard (t : List ℕ) (cores processes p : ℕ) : Type 0 where
 abbrev pub guard_word_at : List ℕ → ℕ → ℕ → ℕ → ℕ
 guard_word_at t cores processes p = channel_at cores processes (guard_at t cores p) channel_holder
 
--- Process p runs on core k, at a stage that enables a guard of its choice, and at one that disables it; and the reply r and the table u
+-- Process p runs on core k, at a stage that enables a guard of its choice, and at one that disables it; and what is said, r, and the table u
 -- are what the step of such a stage comes to.
 abbrev pub AtEnabling : (List ℕ → ℕ → Stage) → List ℕ → ℕ → ℕ → ℕ → ℕ → Type 0
 AtEnabling stage t cores processes k p = At t cores processes k p (stage (guards_at t cores p) (index_at t cores p))
 
-abbrev pub DoesEnabling : (ℕ → List ℕ → ℕ → Rule Answer) → List ℕ → ℕ → ℕ → Reply → List ℕ → Type 0
+abbrev pub DoesEnabling : (ℕ → List ℕ → ℕ → Rule Answer) → List ℕ → ℕ → ℕ → Said → List ℕ → Type 0
 DoesEnabling step t cores p r u = Does (step p (guards_at t cores p) (index_at t cores p)) t r u
 
 abbrev pub AtDisabling : (List ℕ → ℕ → Option ℕ → Stage) → List ℕ → ℕ → ℕ → ℕ → ℕ → Type 0
 AtDisabling stage t cores processes k p = At t cores processes k p (stage (guards_at t cores p) (index_at t cores p) (ready_at t cores p))
 
-abbrev pub DoesDisabling : (ℕ → List ℕ → ℕ → Option ℕ → Rule Answer) → List ℕ → ℕ → ℕ → Reply → List ℕ → Type 0
+abbrev pub DoesDisabling : (ℕ → List ℕ → ℕ → Option ℕ → Rule Answer) → List ℕ → ℕ → ℕ → Said → List ℕ → Type 0
 DoesDisabling step t cores p r u = Does (step p (guards_at t cores p) (index_at t cores p) (ready_at t cores p)) t r u
 
 -- process p is at the stage of number n, with this guard index

@@ -43,11 +43,15 @@ pub fn guard(t: &[u32], p: Process, i: u32) -> u32
 }
 
 // The channel of the guard that the choice has come to.
-pub fn guard_now(t: &[u32], p: Process) -> u32
+pub fn guard_now(t: &[u32], p: Process) -> Channel
     requires { AtGuard t.now p.sizes.cores p.sizes.processes p.number }
-    ensures { result ≡ guard_at t.now p.sizes.cores p.number }
+    ensures number { result.number ≡ guard_at t.now p.sizes.cores p.number }
+    ensures sizes { result.sizes ≡ p.sizes }
 {
-    guard(t, p, p.word(t, layout::PROCESS_INDEX))
+    Channel {
+        sizes: p.sizes,
+        number: guard(t, p, p.word(t, layout::PROCESS_INDEX)),
+    }
 }
 
 // The word of that channel.
@@ -55,11 +59,7 @@ pub fn guard_word(t: &[u32], p: Process) -> u32
     requires { AtGuard t.now p.sizes.cores p.sizes.processes p.number }
     ensures { result ≡ get_or t.now (guard_word_at t.now p.sizes.cores p.sizes.processes p.number) 0 }
 {
-    let c = Channel {
-        sizes: p.sizes,
-        number: guard_now(t, p),
-    };
-    c.word(t, layout::CHANNEL_HOLDER)
+    guard_now(t, p).word(t, layout::CHANNEL_HOLDER)
 }
 
 // That word becomes v.
@@ -67,11 +67,7 @@ pub fn set_guard_word(t: &mut [u32], p: Process, v: u32)
     requires { AtGuard t.old p.sizes.cores p.sizes.processes p.number }
     ensures { t.new ≡ set t.old (guard_word_at t.old p.sizes.cores p.sizes.processes p.number) v }
 {
-    let c = Channel {
-        sizes: p.sizes,
-        number: guard_now(t, p),
-    };
-    c.set(t, layout::CHANNEL_HOLDER, v);
+    guard_now(t, p).set(t, layout::CHANNEL_HOLDER, v);
 }
 
 // Process p is at the guard of number g, at this stage.

@@ -1,21 +1,14 @@
-use Rattle.std.proofs.Common.{arith, rules}
+use Rattle.std.proofs.Common.{arith}
 use Rattle.enabling.proofs.Enabling.{look_guard, look_free, look_held}
-use Rattle.guards.proofs.Stands.{at_process}
 use Rattle.enabling.proofs.enable_look_step.Goals as goal
+use Rattle.enabling.proofs.enable_look_step.Goals.{then-guard_word-eq0, else-guard_word-eq0}
 
 pub guard_word-requires : goal.guard_word-requires
-guard_word-requires c = search (rules, look_guard)
+guard_word-requires c = look_guard c.requires
 
-pub move_on-requires : goal.move_on-requires
-move_on-requires c = search (rules, at_process)
-
-pub move_on-requires-else-guard_word-eq0 : goal.move_on-requires-else-guard_word-eq0
-move_on-requires-else-guard_word-eq0 c = search (rules, at_process)
-
-pub returns-then-guard_word-eq0 : goal.returns-then-guard_word-eq0
-returns-then-guard_word-eq0 c =
-    look_free c.requires (omega arith) c.move_on.ensures.reply c.move_on.ensures.table
-
-pub returns-else-guard_word-eq0 : goal.returns-else-guard_word-eq0
-returns-else-guard_word-eq0 c =
-    look_held c.requires (λ e. omega arith) c.move_on-else-guard_word-eq0.ensures.reply c.move_on-else-guard_word-eq0.ensures.table
+pub returns : goal.returns
+returns c =
+    elim c.if-guard_word-eq0.branch [
+      | then-guard_word-eq0 w ↦ look_free c.requires (omega arith) c.move_on.ensures.reply (rw w.stage-is at c.move_on.ensures.table)
+      | else-guard_word-eq0 w ↦ look_held c.requires (λ e. omega arith) c.move_on.ensures.reply (rw w.stage-is at c.move_on.ensures.table)
+    ]

@@ -1,30 +1,18 @@
-use Rattle.std.proofs.Common.{arith, rules}
-use Rattle.guards.proofs.Stands.{at_process}
+use Rattle.std.proofs.Common.{arith}
 use Rattle.enabling.proofs.Enabling.{place_guard, place_small, place_free, place_held}
 use Rattle.enabling.proofs.place_name_step.Goals as goal
 
 pub guard_word-requires : goal.guard_word-requires
-guard_word-requires c = search (rules, place_guard)
+guard_word-requires c = place_guard c.requires
 
 pub choosing_name-requires : goal.choosing_name-requires
-choosing_name-requires c = search (rules, place_small)
+choosing_name-requires c = place_small c.requires
 
 pub set_guard_word-requires : goal.set_guard_word-requires
-set_guard_word-requires c = search (rules, place_guard)
-
-pub next_guard-requires : goal.next_guard-requires
-next_guard-requires c =
-    let h = at_process c.requires in
-    omega arith
-
-pub move_on-requires : goal.move_on-requires
-move_on-requires c = search (rules, at_process)
+set_guard_word-requires c = place_guard c.requires
 
 pub returns-then-guard_word-eq0 : goal.returns-then-guard_word-eq0
-returns-then-guard_word-eq0 c =
-    place_free c.requires (omega arith)
-    c.next_guard.ensures.reply (cc)
+returns-then-guard_word-eq0 c = place_free c.requires (omega arith) c.next_guard.ensures.reply (cc)
 
 pub returns-else-guard_word-eq0 : goal.returns-else-guard_word-eq0
-returns-else-guard_word-eq0 c =
-    place_held c.requires (λ e. omega arith) c.move_on.ensures.reply c.move_on.ensures.table
+returns-else-guard_word-eq0 c = place_held c.requires (λ e. omega arith) c.move_on.ensures.reply c.move_on.ensures.table

@@ -1,11 +1,5 @@
-use Rattle.std.proofs.Common.{rules}
-use Rattle.guards.proofs.Stands.{at_process}
 use Rattle.enabling.proofs.Enabling.{ready_look_done}
 use Rattle.enabling.proofs.ready_from_look_step.Goals as goal
 
-pub goes_on_ready-requires : goal.goes_on_ready-requires
-goes_on_ready-requires c = search (rules, at_process)
-
 pub returns : goal.returns
-returns c =
-    ready_look_done c.requires c.goes_on_ready.ensures.reply c.goes_on_ready.ensures.table
+returns c = ready_look_done c.requires c.goes_on_ready.ensures.reply c.goes_on_ready.ensures.table
