@@ -11,28 +11,21 @@ use lib.ListN.{get_or, set}
 use lib.Seq.{set-set, get_or-set_same}
 use borrow.Author.Tests.{eq-eqb, ne_eqb}
 use Rattle.rules.specs.Lists.{bit}
-use Rattle.rules.specs.Numbers.{Answer, MOVED, SLEPT, FAULT, yes_with, no_because}
-use Rattle.rules.specs.State.{wait, disable, lower, finish, Progress, doing, Alternation, Process, no_task, ChannelWord, nobody, State}
+use Rattle.rules.specs.Numbers.{Answer, Refusal, Said, MOVED, SLEPT, yes_with, no_because}
+use Rattle.rules.specs.State.{wait, disable, lower, finish, Progress, doing, Alternation, Process, no_task, ChannelWord, nobody, plain, choosing, State}
 use Rattle.rules.specs.Items.{process_of, no_process, put, alternation, progress}
-use Rattle.rules.specs.Rule.{Rule, run, becomes, ◌>>◌}
+use Rattle.rules.specs.Rule.{Rule, done, refuse, run, becomes, ◌>>◌}
 use Rattle.rules.specs.Steps.{next}
 use Rattle.rules.specs.Choice.{guard, counting, flags, waits, wait_step, disable_next, keep_first, disabled, disable_step, lower_step, lowered}
 use Rattle.rules.specs.Layout.{process_at, channel_at, at_disable, at_finish, at_lower, at_wait, channel_holder, process_count}
 use Rattle.rules.specs.Layout.{process_enabling, process_first_ready, process_not_ready, process_progress, process_waiting}
 use Rattle.rules.specs.Layout.{task_none}
 use Rattle.rules.specs.Packing.{ready_number, progress_words, pack, view, word_numbered}
-use Rattle.words.specs.Meaning.{meaning}
-use Rattle.words.specs.declared.Holder.{Holder}
-use Rattle.words.specs.declared.Holder.TheVariants.{Nobody, Plain, Choosing}
-use Rattle.answers.specs.Four.{four}
-use Rattle.answers.specs.declared.Reply.{Reply}
 use Rattle.parts.specs.Does.{At, Comes, Does}
 use Rattle.parts.specs.Shared.{asleep_table}
 use Rattle.parts.proofs.Card.{card_inside}
 use Rattle.parts.proofs.Packs.{IsProcess, still_process, process_read, asleep_written}
 use Rattle.parts.proofs.Flags.{clear_flag, set_flag}
-use Rattle.guards.specs.declared.Change.TheVariants.{Fault, To}
-use Rattle.guards.specs.Change.{changes}
 use Rattle.guards.specs.Read.{word_of, index_at, count_at, counted_table, guard_word_at, AtGuard, stage_table, next_table, flags_table, kept_table}
 use Rattle.guards.proofs.Guards.{in_alternation, Chooses, at_chooses, index_reads, ready_reads, same_guard, other_guard, next_packs}
 use Rattle.guards.proofs.Guards.{alternation_chooses, ready_chooses, word_chooses}
@@ -80,7 +73,7 @@ module _ {t : List ℕ} {cores processes k p : ℕ} {gs : List ℕ} where
     flag_is = process_read wait_chooses.packs p wait_chooses.among process_not_ready (lit< tt)
 
     -- a guard is ready
-    pub wait_ready : {r : Reply} {u : List ℕ} → word_of t cores p process_not_ready ≡ 0 → r ≡ four (yes_with MOVED)
+    pub wait_ready : {r : Said} {u : List ℕ} → word_of t cores p process_not_ready ≡ 0 → r ≡ yes_with MOVED
         → u ≡ stage_table (set t (process_at cores p process_enabling) 0) cores p 1 at_disable → Does (wait_step k p gs) t r u
     unfolding progress_words
     wait_ready {r} {u} e a b =
@@ -92,8 +85,8 @@ module _ {t : List ℕ} {cores processes k p : ℕ} {gs : List ℕ} where
         )
 
     -- none is. The word read is n, the tables on the way are v and w.
-    pub wait_asleep : {r : Reply} {u v w : List ℕ} {n : ℕ} → n ≡ word_of t cores p process_not_ready → (n ≡ 0 → ⊥)
-        → v ≡ flags_table t cores p 0 0 1 → w ≡ stage_table v cores p 1 at_disable → r ≡ four (yes_with (SLEPT p))
+    pub wait_asleep : {r : Said} {u v w : List ℕ} {n : ℕ} → n ≡ word_of t cores p process_not_ready → (n ≡ 0 → ⊥)
+        → v ≡ flags_table t cores p 0 0 1 → w ≡ stage_table v cores p 1 at_disable → r ≡ yes_with (SLEPT p)
         → u ≡ asleep_table w cores k p task_none 0 → Does (wait_step k p gs) t r u
     unfolding progress_words
     wait_asleep {r} {u} reads ne first second a b =
@@ -119,38 +112,37 @@ module _ {t : List ℕ} {cores processes k p : ℕ} {gs : List ℕ} where
     pub disable_guard : AtGuard t cores processes p
     disable_guard = has_guard disable_stands
 
-    -- the code has found h in the word, whose number it read as n
-    module _ {found h : Holder} {n : ℕ} (finds : found ≡ h) (reads : n ≡ get_or t (guard_word_at t cores processes p) 0)
-        (made : meaning found ≡ word_numbered n) where
-      by_word : (r : Reply) (u : List ℕ) → Comes (run (disabled p gs i x (meaning h)) (view t)) t r u → Does (disable_step p gs i x) t r u
+    -- the code has read the word as n, the number of w
+    module _ {w : ChannelWord} {n : ℕ} (found : w ≡ word_numbered n) (reads : n ≡ get_or t (guard_word_at t cores processes p) 0) where
+      by_word : (r : Said) (u : List ℕ) → Comes (run (disabled p gs i x w) (view t)) t r u → Does (disable_step p gs i x) t r u
       by_word r u =
           subst (λ (y : ChannelWord). Comes (run (disabled p gs i x y) (view t)) t r u)
-          (sym (ap meaning finds) ∙ made ∙ ap word_numbered reads ∙ found_word disable_stands)
+          (found ∙ ap word_numbered reads ∙ found_word disable_stands)
 
-    module _ {found : Holder} {n : ℕ} {r : Reply} {u : List ℕ} where
-      pub disable_nobody : found ≡ Nobody → n ≡ get_or t (guard_word_at t cores processes p) 0 → meaning found ≡ word_numbered n
-          → r ≡ four (yes_with MOVED) → u ≡ next_table t cores p at_disable at_finish → Does (disable_step p gs i x) t r u
-      disable_nobody finds reads made a b = by_word finds reads made r u (a, b ∙ disabled_packs disable_stands.chooses)
+    module _ {n : ℕ} {r : Said} {u : List ℕ} where
+      pub disable_nobody : nobody ≡ word_numbered n → n ≡ get_or t (guard_word_at t cores processes p) 0
+          → r ≡ yes_with MOVED → u ≡ next_table t cores p at_disable at_finish → Does (disable_step p gs i x) t r u
+      disable_nobody found reads a b = by_word found reads r u (a, b ∙ disabled_packs disable_stands.chooses)
 
-      pub disable_ready : {q : ℕ} → found ≡ Plain q → n ≡ get_or t (guard_word_at t cores processes p) 0 → meaning found ≡ word_numbered n
-          → r ≡ four (yes_with MOVED) → u ≡ next_table (kept_table t cores p) cores p at_disable at_finish → Does (disable_step p gs i x) t r u
+      pub disable_ready : {q : ℕ} → plain q ≡ word_numbered n → n ≡ get_or t (guard_word_at t cores processes p) 0
+          → r ≡ yes_with MOVED → u ≡ next_table (kept_table t cores p) cores p at_disable at_finish → Does (disable_step p gs i x) t r u
       unfolding progress_words
-      disable_ready finds reads made a b =
+      disable_ready found reads a b =
           let was : ℕ = word_of t cores p process_first_ready in
           let kept : (if eqb was 0 then index_at t cores p else was) ≡ ready_number (keep_first x i) =
           rw (ready_reads disable_stands.chooses, index_reads disable_stands.chooses) (kept_number gs x i disable_stands.ready) in
-          by_word finds reads made r u (
+          by_word found reads r u (
             a,
             b ∙ disabled_packs (ready_chooses disable_stands.chooses (disable gs i (keep_first x i)) _ (keep_first x i) kept refl)
                 ∙ ap pack (put_twice (view t) p _ _ disable_stands.chooses.among),
           )
 
-      pub disable_own : {q : ℕ} → found ≡ Choosing q → n ≡ get_or t (guard_word_at t cores processes p) 0 → meaning found ≡ word_numbered n → q ≡ p
-          → r ≡ four (yes_with MOVED) → u ≡ set (set t (guard_word_at t cores processes p) 0) (process_at cores p process_progress) at_lower
+      pub disable_own : {q : ℕ} → choosing q ≡ word_numbered n → n ≡ get_or t (guard_word_at t cores processes p) 0 → q ≡ p
+          → r ≡ yes_with MOVED → u ≡ set (set t (guard_word_at t cores processes p) 0) (process_at cores p process_progress) at_lower
           → Does (disable_step p gs i x) t r u
       unfolding progress_words
-      disable_own {q} finds reads made own a b =
-          by_word finds reads made r u
+      disable_own {q} found reads own a b =
+          by_word found reads r u
           (rw (eq-eqb q p own) (
             a,
             b
@@ -159,10 +151,10 @@ module _ {t : List ℕ} {cores processes k p : ℕ} {gs : List ℕ} where
                 ∙ same_guard (word_chooses disable_stands.chooses (guard gs i) (guard_among disable_stands) nobody) (lower gs i x) at_lower refl,
           ))
 
-      pub disable_other : {q : ℕ} → found ≡ Choosing q → n ≡ get_or t (guard_word_at t cores processes p) 0 → meaning found ≡ word_numbered n
-          → (q ≡ p → ⊥) → r ≡ four (yes_with MOVED) → u ≡ next_table t cores p at_disable at_finish → Does (disable_step p gs i x) t r u
-      disable_other {q} finds reads made other a b =
-          by_word finds reads made r u (rw (ne_eqb q p other) (a, b ∙ disabled_packs disable_stands.chooses))
+      pub disable_other : {q : ℕ} → choosing q ≡ word_numbered n → n ≡ get_or t (guard_word_at t cores processes p) 0
+          → (q ≡ p → ⊥) → r ≡ yes_with MOVED → u ≡ next_table t cores p at_disable at_finish → Does (disable_step p gs i x) t r u
+      disable_other {q} found reads other a b =
+          by_word found reads r u (rw (ne_eqb q p other) (a, b ∙ disabled_packs disable_stands.chooses))
 
   -- Lower
 
@@ -175,14 +167,14 @@ module _ {t : List ℕ} {cores processes k p : ℕ} {gs : List ℕ} where
     abbrev lowering : ℕ → Rule Answer
     lowering n = becomes alternation p (counting n (process_of (view t) p).alternation) >> next p (disable_next gs i x)
 
-    pub lower_fault : {r : Reply} {u : List ℕ} → changes Fault ≡ lowered (count_at t cores p) → r ≡ four (no_because FAULT) → u ≡ t
+    pub lower_fault : {why : Refusal} {r : Said} {u : List ℕ} → refuse why ≡ lowered (count_at t cores p) → r ≡ no_because why → u ≡ t
         → Does (lower_step p gs i x) t r u
-    lower_fault {r} {u} made a b = by_count lower_stands.chooses.packs p lower_stands.chooses.among lowered lowering Fault made r u (a, b)
+    lower_fault {why} {r} {u} made a b = by_count lower_stands.chooses.packs p lower_stands.chooses.among lowered lowering (refuse why) made r u (a, b)
 
-    pub lower_done : {n : ℕ} {r : Reply} {u : List ℕ} → changes (To n) ≡ lowered (count_at t cores p) → r ≡ four (yes_with MOVED)
+    pub lower_done : {n : ℕ} {r : Said} {u : List ℕ} → done n ≡ lowered (count_at t cores p) → r ≡ yes_with MOVED
         → u ≡ next_table (counted_table t cores p n) cores p at_disable at_finish → Does (lower_step p gs i x) t r u
     lower_done {n} {r} {u} made a b =
-        by_count lower_stands.chooses.packs p lower_stands.chooses.among lowered lowering (To n) made r u (
+        by_count lower_stands.chooses.packs p lower_stands.chooses.among lowered lowering (done n) made r u (
           a,
           b ∙ disabled_packs (alternation_chooses lower_stands.chooses (counting n (process_of (view t) p).alternation)
               ((in_alternation process_count, n) ∷ []) tt refl),

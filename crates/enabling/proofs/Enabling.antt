@@ -80,9 +80,9 @@ module _ {t : List ℕ} {cores processes k p : ℕ} {gs : List ℕ} {i : ℕ} wh
     abbrev raising : ℕ → Rule Answer
     raising n = becomes alternation p (counting n (process_of (view t) p).alternation) >> next p (place_name gs i)
 
-    pub raise_fault : {x : Refusal} {r : Said} {u : List ℕ} → refuse x ≡ raised (count_at t cores p) → r ≡ no_because x → u ≡ t
+    pub raise_fault : {why : Refusal} {r : Said} {u : List ℕ} → refuse why ≡ raised (count_at t cores p) → r ≡ no_because why → u ≡ t
         → Does (raise_step p gs i) t r u
-    raise_fault {x} {r} {u} made a b = by_count raise_stands.chooses.packs p raise_stands.chooses.among raised raising (refuse x) made r u (a, b)
+    raise_fault {why} {r} {u} made a b = by_count raise_stands.chooses.packs p raise_stands.chooses.among raised raising (refuse why) made r u (a, b)
 
     pub raise_done : {n : ℕ} {r : Said} {u : List ℕ} → done n ≡ raised (count_at t cores p) → r ≡ yes_with MOVED
         → u ≡ set (counted_table t cores p n) (process_at cores p process_progress) at_place_name → Does (raise_step p gs i) t r u
@@ -163,10 +163,10 @@ module _ {t : List ℕ} {cores processes k p : ℕ} {gs : List ℕ} {i : ℕ} wh
     abbrev readying : ℕ → Rule Answer
     readying n = becomes alternation p (readied n) >> next p (enable_next gs i)
 
-    pub ready_place_fault : {x : Refusal} {r : Said} {u : List ℕ} → refuse x ≡ lowered (count_at t cores p) → r ≡ no_because x → u ≡ t
+    pub ready_place_fault : {why : Refusal} {r : Said} {u : List ℕ} → refuse why ≡ lowered (count_at t cores p) → r ≡ no_because why → u ≡ t
         → Does (ready_from_place_step p gs i) t r u
-    ready_place_fault {x} {r} {u} made a b =
-        by_count ready_place_stands.chooses.packs p ready_place_stands.chooses.among lowered readying (refuse x) made r u (a, b)
+    ready_place_fault {why} {r} {u} made a b =
+        by_count ready_place_stands.chooses.packs p ready_place_stands.chooses.among lowered readying (refuse why) made r u (a, b)
 
     pub ready_place_done : {n : ℕ} {r : Said} {u : List ℕ} → done n ≡ lowered (count_at t cores p) → r ≡ yes_with MOVED
         → u ≡ ready_table (counted_table t cores p n) cores p → Does (ready_from_place_step p gs i) t r u
