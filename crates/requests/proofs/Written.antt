@@ -11,7 +11,7 @@ use Rattle.rules.specs.Layout.{process_at, process_enabling, process_not_ready, 
 use Rattle.rules.specs.Packing.{padded, progress_words}
 use Rattle.rules.specs.Requests.{choice_begun}
 use Rattle.packing.proofs.Focus.{writes}
-use Rattle.parts.specs.Does.{of_way}
+use Rattle.layout.specs.Numbers.{of_way}
 use Rattle.parts.proofs.Rows.{in_row, writes_in_row, in_row_below}
 use Rattle.parts.proofs.Packs.{Packs, IsProcess, alternation_written, progress_written}
 use Rattle.requests.specs.Asked.{look_table, begun_table, enabling_table}

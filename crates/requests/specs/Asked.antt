@@ -1,33 +1,38 @@
 -- What the code's requests stand for, and what their functions are given, read, refuse and write.
-use Rattle.std.specs.Prelude.{ℕ, ◌≤◌, ◌≡◌, Bool, List, [], ◌∷◌, eqb, length, set, if◌then◌else◌}
+use Rattle.std.specs.Prelude.{ℕ, ◌≤◌, ◌≡◌, Bool, ⊤, Option, Some, None, Result, Ok, Err, List, [], ◌∷◌, eqb, length, set, if◌then◌else◌}
 use Rattle.std.proofs.lemmas.List.Edits.{sets}
 use Rattle.rules.specs.Lists.{within, member}
-use Rattle.rules.specs.Numbers.{CHANNEL, OTHER_END, TWICE, refusal_number}
 use Rattle.rules.specs.State.{runs, nothing}
 use Rattle.rules.specs.Items.{core_of, process_of}
 use Rattle.rules.specs.Requests as rules
-use Rattle.rules.specs.Layout.{core_at, process_at, channel_at, core_runs, process_progress, process_channel, process_guards, process_index, process_first_guard, process_enabling, process_not_ready, process_waiting, process_count, at_nothing, at_enable_look}
+use Rattle.rules.specs.Layout.{room, core_at, process_at, channel_at, core_runs, process_progress, process_channel, process_guards, process_index, process_first_guard, process_enabling, process_not_ready, process_waiting, process_count, at_nothing, at_enable_look}
 use Rattle.rules.specs.Packing.{view, word_at, m_of}
-use Rattle.answers.specs.declared.Reply.{Reply}
+use Rattle.answers.specs.declared.Refusal.{Refusal}
+use Rattle.answers.specs.declared.Refusal.TheVariants.{Channel, OtherEnd, Twice}
+use Rattle.table.specs.declared.Sizes.{Sizes}
+use Rattle.table.specs.declared.Process.{Process}
 use Rattle.table.specs.Has.{HasCore, HasProcess}
 use Rattle.parts.specs.Does.{Card}
 use Rattle.requests.specs.declared.Request.{Request}
 use Rattle.requests.specs.declared.Request.TheVariants.{Send, Receive, Choose, Yield, End}
 
--- a request, with the guards that go beside it
-abbrev pub asked : Request → List ℕ → rules.Request
-asked (Send c v) guards = rules.send c v
-asked (Receive c) guards = rules.receive c
-asked Choose guards = rules.choose guards
-asked Yield guards = rules.yield
-asked End guards = rules.end
+-- a request, by the rules
+abbrev pub asked : Request → rules.Request
+asked (Send c v) = rules.send c v
+asked (Receive c) = rules.receive c
+asked (Choose guards) = rules.choose guards.now
+asked Yield = rules.yield
+asked End = rules.end
 
--- a sound table of as many cores, processes and channels, on whose core k the process p runs, with nothing in hand
-pub record Idle (t : List ℕ) (cores processes channels k p : ℕ) : Type 0 where
-  pub card : Card t cores processes k
-  pub all_channels : channels ≡ m_of t
+-- a sound table of these sizes, on whose core k the process p runs, with nothing in hand; their words and the channels are in the table
+pub record Idle (t : List ℕ) (sizes : Sizes) (k p : ℕ) : Type 0 where
+  pub card : Card t sizes.cores sizes.processes k
+  pub all_channels : sizes.channels ≡ m_of t
   pub runs : (core_of (view t) k).work ≡ runs p
   pub progress : (process_of (view t) p).progress ≡ nothing
+  pub core : HasCore t k
+  pub process : HasProcess t sizes.cores p
+  pub reaches : room sizes.cores sizes.processes sizes.channels ≤ length t
 
 -- the words of core k are in the table, and those of the process that it runs
 pub record HasRunning (t : List ℕ) (cores k : ℕ) : Type 0 where
@@ -40,26 +45,31 @@ asker t cores k =
     let p = word_at t (core_at k core_runs) in
     if eqb p 0 then 0 else if eqb (word_at t (process_at cores p process_progress)) at_nothing then p else 0
 
--- A refusal's number, or 0 where there is none.
+-- the process of this number, as the code has it; none for 0
+abbrev pub found : Sizes → ℕ → Option Process
+found sizes p = if eqb p 0 then None else Some (record { sizes = sizes; number = p })
 
--- a refusal's reply
-abbrev pub refusal : ℕ → Reply
-refusal n = record { number = n; process = 0; channel = 0; value = 0 }
+-- What a process may ask for, or why it may not
 
 -- a channel, and its end: `known` says that it is one of the table's, `own` that the process may use the end
-abbrev pub end_number : Bool → Bool → ℕ
-end_number known own = if known then (if own then 0 else refusal_number OTHER_END) else refusal_number CHANNEL
+abbrev pub end_checked : Bool → Bool → Result ⊤ Refusal
+end_checked known own = if known then (if own then Ok tt else Err OtherEnd) else Err Channel
 
 -- the channel c, with process p at its end f, the writer's or the reader's
-abbrev pub end_refusal : List ℕ → (cores processes channels p f c : ℕ) → ℕ
-end_refusal t cores processes channels p f c =
-    end_number (within 1 channels c) (eqb (word_at t (channel_at cores processes c f)) p)
+abbrev pub check_end : List ℕ → Sizes → (p f c : ℕ) → Result ⊤ Refusal
+check_end t sizes p f c =
+    end_checked (within 1 sizes.channels c) (eqb (word_at t (channel_at sizes.cores sizes.processes c f)) p)
+
+-- what comes after a test that is passed
+abbrev pub after : Result ⊤ Refusal → Result ⊤ Refusal → Result ⊤ Refusal
+after (Ok done) next = next
+after (Err why) next = Err why
 
 -- guard by guard: its end, then whether it repeats an earlier one
-abbrev pub guards_refusal : (ℕ → ℕ) → List ℕ → List ℕ → ℕ
-guards_refusal end earlier [] = 0
-guards_refusal end earlier (c ∷ rest) =
-    if eqb (end c) 0 then (if member c earlier then refusal_number TWICE else guards_refusal end (c ∷ earlier) rest) else end c
+abbrev pub check_guards : (ℕ → Result ⊤ Refusal) → List ℕ → List ℕ → Result ⊤ Refusal
+check_guards end earlier [] = Ok tt
+check_guards end earlier (c ∷ rest) =
+    after (end c) (if member c earlier then Err Twice else check_guards end (c ∷ earlier) rest)
 
 -- What is written
 

@@ -1,267 +1,198 @@
-// The requests (document 01): what the running process of core k does next, on a sound table.
+// The requests (document 01): what the running process of a core does next, on a sound table.
 #![tactic(auto)]
 
-ghost use Rattle.std.specs.Prelude.{◌≡◌, ◌≤◌, ◌<◌, [], length, get_or, take};
-ghost use Rattle.rules.specs.Lists.{member};
+ghost use Rattle.std.specs.Prelude.{◌≡◌, ◌≤◌, ◌<◌, [], length};
 ghost use Rattle.rules.specs.Requests.{request, asks, send, receive, choose, yield, end};
 ghost use Rattle.rules.specs.State.{users};
 ghost use Rattle.rules.specs.Layout.{room, channel_stride, channel_reader, guard_places};
 ghost use Rattle.rules.specs.Packing.{view, m_of};
 ghost use Rattle.table.specs.Has.{HasProcess};
+ghost use Rattle.layout.specs.Numbers.{number_of};
+ghost use Rattle.answers.specs.Said.{said};
 ghost use Rattle.parts.specs.Does.{Card, Does};
-ghost use Rattle.requests.specs.Asked.{asked, Idle, HasRunning, asker, end_refusal, guards_refusal, look_table, begun_table, enabling_table};
+ghost use Rattle.requests.specs.Asked.{asked, Idle, HasRunning, asker, found, check_end, check_guards, look_table, begun_table, enabling_table};
 
-use answers::Reply;
+use answers::{Answer, Refusal, Reply};
+use layout::Place;
+use layout::progress::{Choice, Exchange, Outcome, Progress, Way};
+use parts::Task;
+use table::{Channel, Core, Process, Record, Sizes};
 
-// What is asked; the guards of a choice go beside it, since no enum can hold a slice.
-#[derive(Clone, Copy)]
-pub enum Request {
+// What is asked.
+#[derive(Clone, Copy, Debug)]
+pub enum Request<'a> {
     Send(u32, u32),
     Receive(u32),
-    Choose,
+    Choose(&'a [u32]),
     Yield,
     End,
 }
 
-// The running process with nothing in hand; 0 where there is none.
-fn requester(t: &[u32], cores: usize, k: usize) -> u32
-    requires { HasRunning t.now cores k }
-    ensures { result ≡ asker t.now cores k }
+// The running process, if it has nothing in hand.
+fn requester(t: &[u32], sizes: Sizes, core: Core) -> Option<Process>
+    requires { HasRunning t.now sizes.cores core.0 }
+    ensures { result ≡ found sizes (asker t.now sizes.cores core.0) }
 {
-    let p = table::core_word(t, k, layout::CORE_RUNS);
-    if p == 0 {
-        return 0;
+    let p = Process {
+        sizes,
+        number: core.word(t, layout::CORE_RUNS),
+    };
+    if p.number != 0 && p.word(t, layout::PROCESS_PROGRESS) == Progress::Nothing.number() {
+        Some(p)
+    } else {
+        None
     }
-    let progress = table::process_word(t, cores, p, layout::PROCESS_PROGRESS);
-    if progress != layout::AT_NOTHING {
-        return 0;
-    }
-    p
 }
 
-// Why process p may not use the end f of channel c, its writer's or its reader's; 0 where it may.
-fn end_refusal(
-    t: &[u32],
-    cores: usize,
-    processes: usize,
-    channels: u32,
-    p: u32,
-    f: usize,
-    c: u32,
-) -> u32
+// Process p may use the end f of channel c, its writer's or its reader's.
+fn check_end(t: &[u32], p: Process, f: usize, c: u32) -> Result<(), Refusal>
     requires of_channel { f < channel_stride }
-    requires lies_in { room cores processes channels ≤ length t.now }
-    ensures { result ≡ end_refusal t.now cores processes channels p f c }
+    requires lies_in { room p.sizes.cores p.sizes.processes p.sizes.channels ≤ length t.now }
+    ensures { result ≡ check_end t.now p.sizes p.number f c }
 {
-    if c == 0 {
-        return answers::CHANNEL;
+    if !table::within(1, p.sizes.channels, c) {
+        return Err(Refusal::Channel);
     }
-    if c <= channels {
-        if table::may_use(t, cores, processes, c, f, p) {
-            return 0;
-        }
-        return answers::OTHER_END;
+    let channel = Channel {
+        sizes: p.sizes,
+        number: c,
+    };
+    if !table::may_use(t, channel, f, p.number) {
+        return Err(Refusal::OtherEnd);
     }
-    answers::CHANNEL
+    Ok(())
 }
 
-// The request of process p starts at the look of this number, at channel c.
-fn begin_look(t: &mut [u32], cores: usize, p: u32, number: u32, c: u32)
-    requires { HasProcess t.old cores p }
-    ensures { t.new ≡ look_table t.old cores p number c }
+// The request of process p starts there, at channel c.
+fn begin_look(t: &mut [u32], p: Process, way: Way, c: u32)
+    requires { HasProcess t.old p.sizes.cores p.number }
+    ensures { t.new ≡ look_table t.old p.sizes.cores p.number (number_of (Progress.Exchanging way Exchange.Look)) c }
 {
-    table::set_process_word(t, cores, p, layout::PROCESS_PROGRESS, number);
-    table::set_process_word(t, cores, p, layout::PROCESS_CHANNEL, c);
+    p.set(
+        t,
+        layout::PROCESS_PROGRESS,
+        Progress::Exchanging(way, Exchange::Look).number(),
+    );
+    p.set(t, layout::PROCESS_CHANNEL, c);
 }
 
 // Send stores the value in the process's data word, and starts at look.
-fn send(
-    t: &mut [u32],
-    cores: usize,
-    processes: usize,
-    channels: u32,
-    k: usize,
-    p: u32,
-    c: u32,
-    v: u32,
-) -> Reply
-    requires { Idle t.old cores processes channels k p }
-    ensures { Does (asks (users (view t.old)) k p (send c v)) t.old result t.new }
+fn send(t: &mut [u32], core: Core, p: Process, c: u32, v: u32) -> Reply
+    requires { Idle t.old p.sizes core.0 p.number }
+    ensures { Does (asks (users (view t.old)) core.0 p.number (send c v)) t.old (said result) t.new }
 {
-    let why = end_refusal(t, cores, processes, channels, p, layout::CHANNEL_WRITER, c);
-    if why != 0 {
-        return answers::refused(why);
-    }
-    table::set_process_word(t, cores, p, layout::PROCESS_DATA, v);
-    begin_look(t, cores, p, layout::AT_SEND_LOOK, c);
-    answers::taken(p, c)
+    check_end(t, p, layout::CHANNEL_WRITER, c)?;
+    p.set(t, layout::PROCESS_DATA, v);
+    begin_look(t, p, Way::Sending, c);
+    Ok(Answer::Taken(p.number, c))
 }
 
 // Receive starts at look.
-fn receive(
-    t: &mut [u32],
-    cores: usize,
-    processes: usize,
-    channels: u32,
-    k: usize,
-    p: u32,
-    c: u32,
-) -> Reply
-    requires { Idle t.old cores processes channels k p }
-    ensures { Does (asks (users (view t.old)) k p (receive c)) t.old result t.new }
+fn receive(t: &mut [u32], core: Core, p: Process, c: u32) -> Reply
+    requires { Idle t.old p.sizes core.0 p.number }
+    ensures { Does (asks (users (view t.old)) core.0 p.number (receive c)) t.old (said result) t.new }
 {
-    let why = end_refusal(t, cores, processes, channels, p, layout::CHANNEL_READER, c);
-    if why != 0 {
-        return answers::refused(why);
-    }
-    begin_look(t, cores, p, layout::AT_RECEIVE_LOOK, c);
-    answers::taken(p, c)
+    check_end(t, p, layout::CHANNEL_READER, c)?;
+    begin_look(t, p, Way::Receiving, c);
+    Ok(Answer::Taken(p.number, c))
 }
 
-// Guard i repeats an earlier one.
-fn stands_before(guards: &[u32], i: usize) -> bool
-    requires { i < length guards.now }
-    ensures { result ≡ member (get_or guards.now i 0) (take i guards.now) }
+// Process p may choose over these guards, which are tested one by one.
+fn check_guards(t: &[u32], p: Process, guards: &[u32]) -> Result<(), Refusal>
+    requires { room p.sizes.cores p.sizes.processes p.sizes.channels ≤ length t.now }
+    ensures { result ≡ check_guards (check_end t.now p.sizes p.number channel_reader) [] guards.now }
 {
-    let mut j = 0;
-    while j < i {
-        if guards[j] == guards[i] {
-            return true;
+    for (i, c) in guards.iter().enumerate() {
+        check_end(t, p, layout::CHANNEL_READER, *c)?;
+        if guards[..i].contains(c) {
+            return Err(Refusal::Twice);
         }
-        j += 1;
     }
-    false
-}
-
-// Why process p may not choose over these guards, guard by guard; 0 where it may.
-fn guards_refusal(
-    t: &[u32],
-    cores: usize,
-    processes: usize,
-    channels: u32,
-    p: u32,
-    guards: &[u32],
-) -> u32
-    requires { room cores processes channels ≤ length t.now }
-    ensures { result ≡ guards_refusal (end_refusal t.now cores processes channels p channel_reader) [] guards.now }
-{
-    let mut i = 0;
-    while i < guards.len() {
-        let c = guards[i];
-        let why = end_refusal(t, cores, processes, channels, p, layout::CHANNEL_READER, c);
-        if why != 0 {
-            return why;
-        }
-        if stands_before(guards, i) {
-            return answers::TWICE;
-        }
-        i += 1;
-    }
-    0
+    Ok(())
 }
 
 // Process p begins a choice: enabling and not-ready are set, waiting is clear, the count is 1.
-fn begin_choice(t: &mut [u32], cores: usize, p: u32)
-    requires { HasProcess t.old cores p }
-    ensures { t.new ≡ begun_table t.old cores p }
+fn begin_choice(t: &mut [u32], p: Process)
+    requires { HasProcess t.old p.sizes.cores p.number }
+    ensures { t.new ≡ begun_table t.old p.sizes.cores p.number }
 {
-    table::set_process_word(t, cores, p, layout::PROCESS_ENABLING, 1);
-    table::set_process_word(t, cores, p, layout::PROCESS_NOT_READY, 1);
-    table::set_process_word(t, cores, p, layout::PROCESS_WAITING, 0);
-    table::set_process_word(t, cores, p, layout::PROCESS_COUNT, 1);
+    p.set(t, layout::PROCESS_ENABLING, 1);
+    p.set(t, layout::PROCESS_NOT_READY, 1);
+    p.set(t, layout::PROCESS_WAITING, 0);
+    p.set(t, layout::PROCESS_COUNT, 1);
 }
 
 // Process p is at the enabling look of the first of its guards.
-fn begin_enabling(t: &mut [u32], cores: usize, p: u32, guards: &[u32])
-    requires process { HasProcess t.old cores p }
+fn begin_enabling(t: &mut [u32], p: Process, guards: &[u32])
+    requires process { HasProcess t.old p.sizes.cores p.number }
     requires few_guards { length guards.now ≤ guard_places }
-    ensures { t.new ≡ enabling_table t.old cores p guards.now }
+    ensures { t.new ≡ enabling_table t.old p.sizes.cores p.number guards.now }
 {
-    let size = guards.len() as u32;
-    table::set_process_word(
+    p.set(
         t,
-        cores,
-        p,
         layout::PROCESS_PROGRESS,
-        layout::AT_ENABLE_LOOK,
+        Progress::Choosing(Choice::EnableLook).number(),
     );
-    table::set_process_word(t, cores, p, layout::PROCESS_GUARDS, size);
-    table::set_process_word(t, cores, p, layout::PROCESS_INDEX, 1);
-    table::set_process_words(t, cores, p, layout::PROCESS_FIRST_GUARD, guards);
+    p.set(t, layout::PROCESS_GUARDS, guards.len() as u32);
+    p.set(t, layout::PROCESS_INDEX, 1);
+    p.set_all(t, layout::PROCESS_FIRST_GUARD, guards);
 }
 
 // Choose sets enabling and not-ready, count 1, waiting clear, and starts enabling at the first guard.
-fn choose(
-    t: &mut [u32],
-    cores: usize,
-    processes: usize,
-    channels: u32,
-    k: usize,
-    p: u32,
-    guards: &[u32],
-) -> Reply
-    requires { Idle t.old cores processes channels k p }
-    ensures { Does (asks (users (view t.old)) k p (choose guards.now)) t.old result t.new }
+fn choose(t: &mut [u32], core: Core, p: Process, guards: &[u32]) -> Reply
+    requires { Idle t.old p.sizes core.0 p.number }
+    ensures { Does (asks (users (view t.old)) core.0 p.number (choose guards.now)) t.old (said result) t.new }
 {
-    if guards.len() == 0 {
-        return answers::refused(answers::GUARDS);
+    if guards.is_empty() || guards.len() > layout::GUARD_PLACES {
+        return Err(Refusal::Guards);
     }
-    if guards.len() > 8 {
-        return answers::refused(answers::GUARDS);
-    }
-    let why = guards_refusal(t, cores, processes, channels, p, guards);
-    if why != 0 {
-        return answers::refused(why);
-    }
-    begin_choice(t, cores, p);
-    begin_enabling(t, cores, p, guards);
-    answers::taken(p, 0)
+    check_guards(t, p, guards)?;
+    begin_choice(t, p);
+    begin_enabling(t, p, guards);
+    Ok(Answer::Taken(p.number, 0))
 }
 
 // Yield puts the process at the end of the active queue with outcome GO and leaves nothing running.
-fn yields(t: &mut [u32], cores: usize, processes: usize, channels: u32, k: usize, p: u32) -> Reply
-    requires { Idle t.old cores processes channels k p }
-    ensures { Does (asks (users (view t.old)) k p yield) t.old result t.new }
+fn yields(t: &mut [u32], core: Core, p: Process) -> Reply
+    requires { Idle t.old p.sizes core.0 p.number }
+    ensures { Does (asks (users (view t.old)) core.0 p.number yield) t.old (said result) t.new }
 {
-    table::set_process_word(t, cores, p, layout::PROCESS_PROGRESS, layout::DUE_GO);
-    queues::joins(t, cores, k, p);
-    parts::has_task(t, k, layout::TASK_NONE, 0);
-    answers::taken(p, 0)
+    p.set(t, layout::PROCESS_PROGRESS, Outcome::Go.number());
+    queues::joins(t, core, p);
+    parts::has_task(t, core, Task::None);
+    Ok(Answer::Taken(p.number, 0))
 }
 
 // End makes the process ended and leaves nothing running.
-fn ends(t: &mut [u32], cores: usize, processes: usize, channels: u32, k: usize, p: u32) -> Reply
-    requires { Idle t.old cores processes channels k p }
-    ensures { Does (asks (users (view t.old)) k p end) t.old result t.new }
+fn ends(t: &mut [u32], core: Core, p: Process) -> Reply
+    requires { Idle t.old p.sizes core.0 p.number }
+    ensures { Does (asks (users (view t.old)) core.0 p.number end) t.old (said result) t.new }
 {
-    table::set_process_word(t, cores, p, layout::PROCESS_PLACE, layout::PLACE_ENDED);
-    parts::has_task(t, k, layout::TASK_NONE, 0);
-    answers::taken(p, 0)
+    p.set(t, layout::PROCESS_PLACE, Place::Ended as u32);
+    parts::has_task(t, core, Task::None);
+    Ok(Answer::Taken(p.number, 0))
 }
 
-// A request of the running process of core k: BUSY where nothing runs there, or something is in hand.
-pub fn make(
-    t: &mut [u32],
-    cores: usize,
-    processes: usize,
-    channels: u32,
-    k: usize,
-    r: Request,
-    guards: &[u32],
-) -> Reply
-    requires card { Card t.old cores processes k }
-    requires wired { channels ≡ m_of t.old }
-    ensures { Does (request (users (view t.old)) (asked r guards.now) k) t.old result t.new }
+// Process p, which has nothing in hand, does what it is asked for.
+fn perform(t: &mut [u32], core: Core, p: Process, r: Request<'_>) -> Reply
+    requires { Idle t.old p.sizes core.0 p.number }
+    ensures { Does (asks (users (view t.old)) core.0 p.number (asked r.entry)) t.old (said result) t.new }
 {
-    let p = requester(t, cores, k);
-    if p == 0 {
-        return answers::refused(answers::BUSY);
-    }
     match r {
-        Request::Send(c, v) => send(t, cores, processes, channels, k, p, c, v),
-        Request::Receive(c) => receive(t, cores, processes, channels, k, p, c),
-        Request::Choose => choose(t, cores, processes, channels, k, p, guards),
-        Request::Yield => yields(t, cores, processes, channels, k, p),
-        Request::End => ends(t, cores, processes, channels, k, p),
+        Request::Send(c, v) => send(t, core, p, c, v),
+        Request::Receive(c) => receive(t, core, p, c),
+        Request::Choose(guards) => choose(t, core, p, guards),
+        Request::Yield => yields(t, core, p),
+        Request::End => ends(t, core, p),
     }
+}
+
+// A request of the core's running process: BUSY where nothing runs there, or something is in hand.
+pub fn make(t: &mut [u32], sizes: Sizes, core: Core, r: Request<'_>) -> Reply
+    requires card { Card t.old sizes.cores sizes.processes core.0 }
+    requires wired { sizes.channels ≡ m_of t.old }
+    ensures { Does (request (users (view t.old)) (asked r.entry) core.0) t.old (said result) t.new }
+{
+    let p = requester(t, sizes, core).ok_or(Refusal::Busy)?;
+    perform(t, core, p, r)
 }

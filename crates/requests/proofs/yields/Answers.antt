@@ -1,16 +1,14 @@
 -- The outcome, the queue and the core are written.
-use Rattle.std.proofs.Common.{rules}
-use Rattle.requests.proofs.Meets.{idle_process, idle_core, yield_joins, yield_does}
+use Rattle.std.proofs.Common.{◌≡◌, set}
+use Rattle.rules.specs.Layout.{process_at, process_progress, due_go}
+use Rattle.requests.proofs.Meets.{yield_joins, yield_does}
 use Rattle.requests.proofs.yields.Goals as goal
 
-pub set_process_word-requires : goal.set_process_word-requires
-set_process_word-requires c = let has = idle_process c.requires in search rules
-
 pub joins-requires : goal.joins-requires
-joins-requires c = yield_joins c.requires c.set_process_word.ensures
-
-pub has_task-requires : goal.has_task-requires
-has_task-requires c = let has = idle_core c.requires in search rules
+joins-requires c = yield_joins c.requires cc
 
 pub returns : goal.returns
-returns c = yield_does c.requires c.set_process_word.ensures c.taken.ensures cc
+returns c =
+    let p = c.args.p in
+    let stored : c.set.new.t ≡ set c.args.t.now (process_at p.sizes.cores p.number process_progress) due_go = cc in
+    yield_does c.requires stored cc
