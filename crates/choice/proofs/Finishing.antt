@@ -11,7 +11,7 @@ use lib.Dec.{T, eqb, lit<}
 use lib.ListN.{length}
 use borrow.Author.Tests.{eq-eqb, ne_eqb}
 use Rattle.rules.specs.Lists.{bit, within, all, distinct}
-use Rattle.rules.specs.Numbers.{Answer, Refusal, Said, MOVED, SLEPT, CHOSE, FAULT, yes_with, no_because}
+use Rattle.rules.specs.Numbers.{Answer, Refusal, Said, MOVED, SLEPT, CHOSE, yes_with, no_because}
 use Rattle.rules.specs.State.{receiving, finish, chose, due, Alternation, no_task, trigger, wake_up, free, State, wiring}
 use Rattle.rules.specs.Items.{core_of, process_of, put, alternation, progress}
 use Rattle.rules.specs.Rule.{Rule, refuse, run, done, the, becomes, ◌>>=◌, ◌>>◌}
@@ -31,7 +31,7 @@ use Rattle.parts.proofs.Packs.{task_written, asleep_written}
 use Rattle.parts.proofs.Flags.{set_flag, unset_flag}
 use Rattle.guards.specs.Read.{word_of, count_at, counted_table, guard_place, triggered_table}
 use Rattle.guards.proofs.Guards.{in_progress, in_alternation, Chooses, at_chooses, ready_reads, guard_reads, alternation_chooses}
-use Rattle.guards.proofs.Rules.{ready_range, first_fault, first_on, by_count}
+use Rattle.guards.proofs.Rules.{ready_range, first_on, by_count}
 
 -- Finish
 
@@ -88,11 +88,6 @@ module _ {t : List ℕ} {cores processes k p : ℕ} {gs : List ℕ} {x : Option 
   -- the state with the count n
   abbrev less : ℕ → State
   less n = put alternation p (counting n finisher) (view t)
-
-  -- no guard is ready
-  pub finish_none : {r : Said} {u : List ℕ} → word_of t cores p process_first_ready ≡ 0 → r ≡ no_because FAULT → u ≡ t
-      → Does (finish_step k p gs x) t r u
-  finish_none {r} {u} e a b = first_fault (view t) t counted r u gs x finish_valid.1 (sym (ready_reads finish_chooses) ∙ e) a b
 
   module _ (there : word_of t cores p process_first_ready ≡ 0 → ⊥) where
     -- a guard is ready

@@ -3,17 +3,14 @@
 #![tactic(auto, using(guards::proofs::Stands::at_process, guards::proofs::Stands::at_core))]
 
 ghost use Rattle.std.specs.Prelude.{◌≡◌};
-ghost use Rattle.rules.specs.State.{wait, disable, lower, finish};
-ghost use Rattle.rules.specs.State.{trigger, free};
+ghost use Rattle.rules.specs.State.{wait, disable, lower, finish, trigger, free};
 ghost use Rattle.rules.specs.Items.{core_of};
-ghost use Rattle.rules.specs.Choice.{wait_step};
-ghost use Rattle.rules.specs.Choice.{disable_step, lower_step, finish_step, trigger_step};
+ghost use Rattle.rules.specs.Choice.{wait_step, disable_step, lower_step, finish_step, trigger_step};
 ghost use Rattle.rules.specs.Packing.{view};
 ghost use Rattle.answers.specs.Said.{said};
 ghost use Rattle.table.specs.Has.{HasProcess};
 ghost use Rattle.parts.specs.Does.{Card, At, Does};
-ghost use Rattle.guards.specs.Read.{guards_at, ready_at, AtDisabling, DoesDisabling};
-ghost use Rattle.guards.specs.Read.{flags_table, kept_table, triggered_table};
+ghost use Rattle.guards.specs.Read.{guards_at, ready_at, AtDisabling, DoesDisabling, flags_table, kept_table, triggered_table};
 
 use answers::{Answer, Refusal, Reply};
 use layout::progress::{Choice, Outcome, Progress};
@@ -52,11 +49,8 @@ fn keep_first(t: &mut [u32], p: Process)
     ensures { t.new ≡ kept_table t.old p.sizes.cores p.number }
 {
     if p.word(t, layout::PROCESS_FIRST_READY) == 0 {
-        p.set(
-            t,
-            layout::PROCESS_FIRST_READY,
-            p.word(t, layout::PROCESS_INDEX),
-        );
+        let i = p.word(t, layout::PROCESS_INDEX);
+        p.set(t, layout::PROCESS_FIRST_READY, i);
     }
 }
 
@@ -91,7 +85,8 @@ pub fn lower_step(t: &mut [u32], core: Core, p: Process) -> Reply
 
 // Finish: no ready guard is a fault; count - 1; at 0 CHOSE with the first ready guard; above 0 asleep, with CHOSE due.
 pub fn finish_step(t: &mut [u32], core: Core, p: Process) -> Reply
-    requires { At t.old p.sizes.cores p.sizes.processes core.0 p.number (finish (guards_at t.old p.sizes.cores p.number) (ready_at t.old p.sizes.cores p.number)) }
+    requires { At t.old p.sizes.cores p.sizes.processes core.0 p.number
+        (finish (guards_at t.old p.sizes.cores p.number) (ready_at t.old p.sizes.cores p.number)) }
     ensures { Does (finish_step core.0 p.number (guards_at t.old p.sizes.cores p.number) (ready_at t.old p.sizes.cores p.number))
         t.old (said result) t.new }
 {

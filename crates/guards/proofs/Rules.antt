@@ -7,7 +7,7 @@ use mathlib.Core.Option.{Option, none, some}
 use native.Mathlib.Omega.{arith}
 use lib.Dec.{T, eqb, lit<}
 use lib.ListN.{length}
-use Rattle.rules.specs.Numbers.{Answer, Said, FAULT, no_because}
+use Rattle.rules.specs.Numbers.{Answer, Said}
 use Rattle.rules.specs.State.{ChannelWord, nobody, plain, choosing, State, Wiring}
 use Rattle.rules.specs.Rule.{Rule, run, ◌>>=◌}
 use Rattle.rules.specs.Choice.{guard, keep_first, first_ready}
@@ -46,13 +46,7 @@ by_count {t} {s = s} packs p is rule f to made r u =
     subst (λ (x : Rule ℕ). Comes (run (x >>= f) s) t r u) (made ∙ ap rule (process_read packs p is process_count (lit< tt)))
 
 module _ (s : State) (t : List ℕ) (f : ℕ → Rule Answer) (r : Said) (u : List ℕ) where
-  -- no guard is ready
-  pub first_fault : (gs : List ℕ) (x : Option ℕ) → T (ready_in_list gs x) → ready_number x ≡ 0 → r ≡ no_because FAULT → u ≡ t
-      → Comes (run (first_ready gs x >>= f) s) t r u
-  first_fault gs none h e a b = (a, b)
-  first_fault gs (some i) h e a b = let range = within_means 1 (length gs) i h in absurd (omega arith)
-
-  -- one is
+  -- one guard is ready
   pub first_on : (gs : List ℕ) (x : Option ℕ) → (ready_number x ≡ 0 → ⊥) → Comes (run (f (guard gs (ready_number x))) s) t r u
       → Comes (run (first_ready gs x >>= f) s) t r u
   first_on gs none there h = absurd (there refl)

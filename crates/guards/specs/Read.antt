@@ -46,8 +46,8 @@ pub record AtGuard (t : List ℕ) (cores processes p : ℕ) : Type 0 where
 abbrev pub guard_word_at : List ℕ → ℕ → ℕ → ℕ → ℕ
 guard_word_at t cores processes p = channel_at cores processes (guard_at t cores p) channel_holder
 
--- Process p runs on core k, at a stage that enables a guard of its choice, and at one that disables it; and what is said, r, and the table u
--- are what the step of such a stage comes to.
+-- Process p runs on core k, at a stage that enables a guard of its choice, and at one that disables it; and what is said, r, and the table
+-- u are what the step of such a stage comes to.
 abbrev pub AtEnabling : (List ℕ → ℕ → Stage) → List ℕ → ℕ → ℕ → ℕ → ℕ → Type 0
 AtEnabling stage t cores processes k p = At t cores processes k p (stage (guards_at t cores p) (index_at t cores p))
 

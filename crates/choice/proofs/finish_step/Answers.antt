@@ -1,11 +1,8 @@
 use Rattle.std.proofs.Common.{arith, rules, refl, ap, ◌∙◌}
 use Rattle.rules.specs.Choice.{lowered}
 use Rattle.guards.proofs.Stands.{at_process}
-use Rattle.choice.proofs.Finishing.{finish_guard, finish_none, finish_fault, finish_now, finish_later}
+use Rattle.choice.proofs.Finishing.{finish_guard, finish_fault, finish_now, finish_later}
 use Rattle.choice.proofs.finish_step.Goals as goal
-
-pub returns-then-ready-eq0 : goal.returns-then-ready-eq0
-returns-then-ready-eq0 c = finish_none c.requires (omega arith) refl refl
 
 pub guard-c-requires : goal.guard-c-requires
 guard-c-requires c =
