@@ -3,11 +3,11 @@
 
 ghost use Rattle.rules.specs.State.{wake_up};
 ghost use Rattle.rules.specs.CoreStep.{step};
-ghost use Rattle.layout.specs.Numbers.{which, of_way, exchange_number, choice_number};
+ghost use Rattle.layout.specs.Numbers.{which};
 ghost use Rattle.answers.specs.Said.{said};
-ghost use Rattle.parts.specs.Does.{Card, Does};
+ghost use Rattle.parts.specs.Does.{Card, At, Does};
 ghost use Rattle.scheduler.specs.Free.{Free};
-ghost use Rattle.core_step.specs.Running.{Running, Reads, IsAt, Idle, HasTask};
+ghost use Rattle.core_step.specs.Running.{Running, exchanged, chosen_by, Idle, HasTask};
 
 use answers::{Answer, Refusal, Reply};
 use layout::TaskKind;
@@ -16,6 +16,7 @@ use parts::Task;
 use table::{Core, Process, Record, Sizes};
 
 // A stage of send or receive, with the channel c and the partner q.
+#[tactic(auto, using(crate::proofs::Stage::does_stage))]
 fn exchange_step(
     t: &mut [u32],
     core: Core,
@@ -25,7 +26,7 @@ fn exchange_step(
     c: u32,
     q: u32,
 ) -> Reply
-    requires { Reads t.old p.sizes.cores p.sizes.processes core.0 p.number (of_way (which way) (exchange_number stage)) c q }
+    requires { At t.old p.sizes.cores p.sizes.processes core.0 p.number (exchanged (which way) stage c q) }
     ensures { Does (step core.0) t.old (said result) t.new }
 {
     match stage {
@@ -38,8 +39,9 @@ fn exchange_step(
 }
 
 // A stage of choose.
+#[tactic(auto, using(crate::proofs::Stage::does_stage))]
 fn choice_step(t: &mut [u32], core: Core, p: Process, stage: Choice) -> Reply
-    requires { IsAt t.old p.sizes.cores p.sizes.processes core.0 p.number (choice_number stage) }
+    requires { At t.old p.sizes.cores p.sizes.processes core.0 p.number (chosen_by t.old p.sizes.cores p.number stage) }
     ensures { Does (step core.0) t.old (said result) t.new }
 {
     match stage {
@@ -56,6 +58,7 @@ fn choice_step(t: &mut [u32], core: Core, p: Process, stage: Choice) -> Reply
 }
 
 // The running process p: the stage of its request; AWAITED where it has none.
+#[tactic(auto, using(crate::proofs::Stage::at_exchange, crate::proofs::Stage::at_choice, crate::proofs::Stage::awaited_due, crate::proofs::Stage::awaited_beyond, crate::proofs::Stage::awaited_nothing))]
 fn running_step(t: &mut [u32], core: Core, p: Process) -> Reply
     requires { Running t.old p.sizes.cores p.sizes.processes core.0 p.number }
     ensures { Does (step core.0) t.old (said result) t.new }
@@ -68,11 +71,14 @@ fn running_step(t: &mut [u32], core: Core, p: Process) -> Reply
             exchange_step(t, core, p, way, stage, c, q)
         }
         Ok(Progress::Choosing(stage)) => choice_step(t, core, p, stage),
-        _ => Err(Refusal::Awaited),
+        Ok(Progress::Nothing) => Err(Refusal::Awaited),
+        Ok(Progress::Due(_)) => Err(Refusal::Awaited),
+        Err(_) => Err(Refusal::Awaited),
     }
 }
 
 // Wake q, a kernel task: the core wakes q, and the task is over.
+#[tactic(auto, using(crate::proofs::Tasks::free_core, crate::proofs::Tasks::can_wake, crate::proofs::Tasks::task_over))]
 fn wake_task_step(t: &mut [u32], core: Core, q: Process) -> Reply
     requires { Free t.old q.sizes.cores q.sizes.processes core.0 (wake_up q.number) }
     ensures { Does (step core.0) t.old (said result) t.new }
@@ -83,6 +89,7 @@ fn wake_task_step(t: &mut [u32], core: Core, q: Process) -> Reply
 }
 
 // The kernel task of this number, of process q; the scheduler where there is none.
+#[tactic(auto, using(crate::proofs::Tasks::is_free, crate::proofs::Tasks::is_trigger, crate::proofs::Tasks::does_trigger, crate::proofs::Tasks::is_wake))]
 fn task_step(t: &mut [u32], core: Core, task: u32, q: Process) -> Reply
     requires { HasTask t.old q.sizes.cores q.sizes.processes core.0 task q.number }
     ensures { Does (step core.0) t.old (said result) t.new }
@@ -110,6 +117,7 @@ fn free_step(t: &mut [u32], sizes: Sizes, core: Core) -> Reply
 }
 
 // The next atomic step of the core.
+#[tactic(auto, using(parts::proofs::Card::card_core, crate::proofs::Tasks::is_running, crate::proofs::Tasks::is_idle))]
 pub fn step(t: &mut [u32], sizes: Sizes, core: Core) -> Reply
     requires { Card t.old sizes.cores sizes.processes core.0 }
     ensures { Does (step core.0) t.old (said result) t.new }
