@@ -1,158 +1,120 @@
 // A process's progress: which of its words mean something goes by its number n.
 ghost use Rattle.std.specs.Prelude.{◌≡◌, ◌+◌, ◌<◌, ◌≤◌, length};
-ghost use Rattle.rules.specs.Layout.{room, process_at, process_stride, guard_places, channel_stride};
+ghost use Rattle.rules.specs.Layout.{guard_places, channel_stride};
+ghost use Rattle.table.specs.Has.{HasProcess, IsOfSizes, IsProcessOf};
 ghost use Rattle.fitting.specs.Twin.{is_sender, is_receiver, has_partner, has_guards, has_index, has_ready};
-ghost use Rattle.fitting.specs.Twin.{end_fits, stands_among, guards_fit, channel_part, partner_part, guards_stand, index_part, ready_part, progress_fits};
+ghost use Rattle.fitting.specs.Twin.{end_fits, guards_fit, channel_part, partner_part, guards_stand, index_part, ready_part, progress_fits};
 ghost use Rattle.processes.specs.Parts.{no_guards, exchange_fits, choice_fits};
 
-use records::read;
+use layout::progress::{Choice, Exchange, Outcome, Progress, Way};
+use records::zeros;
+use table::{Channel, Process, Record, within};
 
 fn is_sender(n: u32) -> bool
     ensures { result ≡ is_sender n }
 {
-    (layout::AT_SEND_LOOK <= n) & (n <= layout::AT_SEND_WAKE) | (n == layout::DUE_SENT)
+    within(Exchange::Look as u32, Exchange::Wake as u32, n) | (n == Outcome::Sent as u32)
 }
 
 fn is_receiver(n: u32) -> bool
     ensures { result ≡ is_receiver n }
 {
-    (layout::AT_RECEIVE_LOOK <= n) & (n <= layout::AT_RECEIVE_WAKE)
-        | (layout::DUE_GOT <= n) & (n <= layout::DUE_CHOSE)
+    within(
+        Progress::Exchanging(Way::Receiving, Exchange::Look).number(),
+        Progress::Exchanging(Way::Receiving, Exchange::Wake).number(),
+        n,
+    ) | within(Outcome::Got as u32, Outcome::Chose as u32, n)
 }
 
 fn has_partner(n: u32) -> bool
     ensures { result ≡ has_partner n }
 {
-    (layout::AT_SEND_COPY <= n) & (n <= layout::AT_SEND_WAKE)
-        | (layout::AT_RECEIVE_COPY <= n) & (n <= layout::AT_RECEIVE_WAKE)
+    within(Exchange::Copy as u32, Exchange::Wake as u32, n)
+        | within(
+            Progress::Exchanging(Way::Receiving, Exchange::Copy).number(),
+            Progress::Exchanging(Way::Receiving, Exchange::Wake).number(),
+            n,
+        )
 }
 
 fn has_guards(n: u32) -> bool
     ensures { result ≡ has_guards n }
 {
-    (layout::AT_ENABLE_LOOK <= n) & (n <= layout::AT_FINISH)
+    within(Choice::EnableLook as u32, Choice::Finish as u32, n)
 }
 
 fn has_index(n: u32) -> bool
     ensures { result ≡ has_index n }
 {
-    (layout::AT_ENABLE_LOOK <= n) & (n <= layout::AT_READY_FROM_PLACE)
-        | (layout::AT_DISABLE <= n) & (n <= layout::AT_LOWER)
+    within(Choice::EnableLook as u32, Choice::ReadyFromPlace as u32, n)
+        | within(Choice::Disable as u32, Choice::Lower as u32, n)
 }
 
 fn has_ready(n: u32) -> bool
     ensures { result ≡ has_ready n }
 {
-    (layout::AT_DISABLE <= n) & (n <= layout::AT_FINISH)
+    within(Choice::Disable as u32, Choice::Finish as u32, n)
 }
 
 // Process p stands at the end f (writer or reader) of channel c.
-fn end_fits(
-    t: &[u32],
-    cores: usize,
-    processes: u32,
-    channels: u32,
-    p: u32,
-    f: usize,
-    c: u32,
-) -> bool
-    requires { (length t.now ≡ room cores processes channels) × (f < channel_stride) }
-    ensures { result ≡ end_fits t.now cores processes channels p f c }
+fn end_fits(t: &[u32], p: Process, f: usize, c: u32) -> bool
+    requires sized { IsOfSizes t.now p.sizes }
+    requires end { f < channel_stride }
+    ensures { result ≡ end_fits t.now p.sizes.cores p.sizes.processes p.sizes.channels p.number f c }
 {
-    read::within(1, channels, c) && table::may_use(t, cores, processes as usize, c, f, p)
-}
-
-// x stands among the `count` words from `from` on.
-fn stands_among(t: &[u32], x: u32, from: usize, count: usize) -> bool
-    requires { from + count ≤ length t.now }
-    ensures { result ≡ stands_among t.now x from count }
-{
-    let end = from + count;
-    let mut at = from;
-    while at < end {
-        if read::word(t, at) == x {
-            return true;
-        }
-        at += 1;
-    }
-    false
+    let sizes = p.sizes;
+    within(1, sizes.channels, c) && table::may_use(t, Channel { sizes, number: c }, f, p.number)
 }
 
 // The `count` guards from the word `from` on: each one's own, none twice.
-fn guards_fit(
-    t: &[u32],
-    cores: usize,
-    processes: u32,
-    channels: u32,
-    p: u32,
-    from: usize,
-    count: usize,
-) -> bool
-    requires { (length t.now ≡ room cores processes channels) × (from + count ≤ length t.now) }
-    ensures { result ≡ guards_fit t.now cores processes channels p from count }
+fn guards_fit(t: &[u32], p: Process, from: usize, count: usize) -> bool
+    requires sized { IsOfSizes t.now p.sizes }
+    requires reaches { from + count ≤ length t.now }
+    ensures { result ≡ guards_fit t.now p.sizes.cores p.sizes.processes p.sizes.channels p.number from count }
 {
     let end = from + count;
-    let mut at = from;
-    while at < end {
-        let c = read::word(t, at);
-        at += 1;
-        if !end_fits(t, cores, processes, channels, p, layout::CHANNEL_READER, c) {
+    for at in from..end {
+        if !end_fits(t, p, layout::CHANNEL_READER, t[at]) {
             return false;
         }
-        if stands_among(t, c, at, end - at) {
+        if t[at + 1..end].contains(&t[at]) {
             return false;
         }
     }
     true
 }
 
-fn channel_part(
-    t: &[u32],
-    cores: usize,
-    processes: u32,
-    channels: u32,
-    p: u32,
-    n: u32,
-    c: u32,
-) -> bool
-    requires { length t.now ≡ room cores processes channels }
-    ensures { result ≡ channel_part t.now cores processes channels p n c }
+fn channel_part(t: &[u32], p: Process, n: u32, c: u32) -> bool
+    requires { IsOfSizes t.now p.sizes }
+    ensures { result ≡ channel_part t.now p.sizes.cores p.sizes.processes p.sizes.channels p.number n c }
 {
     if is_sender(n) {
-        end_fits(t, cores, processes, channels, p, layout::CHANNEL_WRITER, c)
+        end_fits(t, p, layout::CHANNEL_WRITER, c)
     } else if is_receiver(n) {
-        end_fits(t, cores, processes, channels, p, layout::CHANNEL_READER, c)
+        end_fits(t, p, layout::CHANNEL_READER, c)
     } else {
         c == 0
     }
 }
 
 // g guards from the word `from` on, 1 to 8, and zeros behind them.
-fn guards_stand(
-    t: &[u32],
-    cores: usize,
-    processes: u32,
-    channels: u32,
-    p: u32,
-    g: u32,
-    from: usize,
-) -> bool
-    requires { (length t.now ≡ room cores processes channels) × (from + guard_places ≤ length t.now) }
-    ensures { result ≡ guards_stand t.now cores processes channels p g from }
+fn guards_stand(t: &[u32], p: Process, g: u32, from: usize) -> bool
+    requires sized { IsOfSizes t.now p.sizes }
+    requires reaches { from + guard_places ≤ length t.now }
+    ensures { result ≡ guards_stand t.now p.sizes.cores p.sizes.processes p.sizes.channels p.number g from }
 {
-    if !read::within(1, 8, g) {
+    if !within(1, 8, g) {
         return false;
     }
     let count = g as usize;
-    guards_fit(t, cores, processes, channels, p, from, count)
-        & read::zeros(t, from + count, layout::GUARD_PLACES - count)
+    guards_fit(t, p, from, count) & zeros(t, from + count, layout::GUARD_PLACES - count)
 }
 
 fn partner_part(processes: u32, n: u32, q: u32) -> bool
     ensures { result ≡ partner_part processes n q }
 {
     if has_partner(n) {
-        read::within(1, processes, q)
+        within(1, processes, q)
     } else {
         q == 0
     }
@@ -162,7 +124,7 @@ fn index_part(n: u32, g: u32, i: u32) -> bool
     ensures { result ≡ index_part n g i }
 {
     if has_index(n) {
-        read::within(1, g, i)
+        within(1, g, i)
     } else {
         i == 0
     }
@@ -175,70 +137,49 @@ fn ready_part(n: u32, g: u32, first: u32) -> bool
 }
 
 // No guards, no guard index, no ready guard.
-fn no_guards(t: &[u32], cores: usize, p: u32) -> bool
-    requires { (1 ≤ p) × (process_at cores p process_stride ≤ length t.now) }
-    ensures { result ≡ no_guards t.now cores p }
+fn no_guards(t: &[u32], p: Process) -> bool
+    requires { HasProcess t.now p.sizes.cores p.number }
+    ensures { result ≡ no_guards t.now p.sizes.cores p.number }
 {
-    let guards = read::process_at(t, cores, p, layout::PROCESS_FIRST_GUARD);
-    (table::process_word(t, cores, p, layout::PROCESS_GUARDS) == 0)
-        & (table::process_word(t, cores, p, layout::PROCESS_INDEX) == 0)
-        & (table::process_word(t, cores, p, layout::PROCESS_FIRST_READY) == 0)
-        & read::four_zeros(t, guards)
-        & read::four_zeros(t, guards + 4)
+    let guards = p.at(t, layout::PROCESS_FIRST_GUARD);
+    (p.word(t, layout::PROCESS_GUARDS) == 0)
+        & (p.word(t, layout::PROCESS_INDEX) == 0)
+        & (p.word(t, layout::PROCESS_FIRST_READY) == 0)
+        & zeros(t, guards, layout::GUARD_PLACES)
 }
 
 // A progress without guards, of the number n: its channel and partner, and zeros behind them.
-fn exchange_fits(t: &[u32], cores: usize, processes: u32, channels: u32, p: u32, n: u32) -> bool
-    requires { (length t.now ≡ room cores processes channels) × (1 ≤ p) × (p ≤ processes) }
-    ensures { result ≡ exchange_fits t.now cores processes channels p n }
+fn exchange_fits(t: &[u32], p: Process, n: u32) -> bool
+    requires { IsProcessOf t.now p }
+    ensures { result ≡ exchange_fits t.now p.sizes.cores p.sizes.processes p.sizes.channels p.number n }
 {
-    if n > layout::DUE_CHOSE {
-        return false;
-    }
-    let channel = table::process_word(t, cores, p, layout::PROCESS_CHANNEL);
-    if !channel_part(t, cores, processes, channels, p, n, channel) {
-        return false;
-    }
-    if !partner_part(
-        processes,
-        n,
-        table::process_word(t, cores, p, layout::PROCESS_PARTNER),
-    ) {
-        return false;
-    }
-    no_guards(t, cores, p)
+    (n <= Outcome::Chose as u32)
+        && channel_part(t, p, n, p.word(t, layout::PROCESS_CHANNEL))
+        && partner_part(p.sizes.processes, n, p.word(t, layout::PROCESS_PARTNER))
+        && no_guards(t, p)
 }
 
 // One with guards: no channel and no partner; its guards, its guard index, its first ready guard.
-fn choice_fits(t: &[u32], cores: usize, processes: u32, channels: u32, p: u32, n: u32) -> bool
-    requires { (length t.now ≡ room cores processes channels) × (1 ≤ p) × (p ≤ processes) }
-    ensures { result ≡ choice_fits t.now cores processes channels p n }
+fn choice_fits(t: &[u32], p: Process, n: u32) -> bool
+    requires { IsProcessOf t.now p }
+    ensures { result ≡ choice_fits t.now p.sizes.cores p.sizes.processes p.sizes.channels p.number n }
 {
-    let g = table::process_word(t, cores, p, layout::PROCESS_GUARDS);
-    let guards = read::process_at(t, cores, p, layout::PROCESS_FIRST_GUARD);
-    (table::process_word(t, cores, p, layout::PROCESS_CHANNEL) == 0)
-        & (table::process_word(t, cores, p, layout::PROCESS_PARTNER) == 0)
-        & guards_stand(t, cores, processes, channels, p, g, guards)
-        & index_part(
-            n,
-            g,
-            table::process_word(t, cores, p, layout::PROCESS_INDEX),
-        )
-        & ready_part(
-            n,
-            g,
-            table::process_word(t, cores, p, layout::PROCESS_FIRST_READY),
-        )
+    let g = p.word(t, layout::PROCESS_GUARDS);
+    (p.word(t, layout::PROCESS_CHANNEL) == 0)
+        & (p.word(t, layout::PROCESS_PARTNER) == 0)
+        & guards_stand(t, p, g, p.at(t, layout::PROCESS_FIRST_GUARD))
+        & index_part(n, g, p.word(t, layout::PROCESS_INDEX))
+        & ready_part(n, g, p.word(t, layout::PROCESS_FIRST_READY))
 }
 
-pub fn progress_fits(t: &[u32], cores: usize, processes: u32, channels: u32, p: u32) -> bool
-    requires { (length t.now ≡ room cores processes channels) × (1 ≤ p) × (p ≤ processes) }
-    ensures { result ≡ progress_fits t.now cores processes channels p }
+pub fn progress_fits(t: &[u32], p: Process) -> bool
+    requires { IsProcessOf t.now p }
+    ensures { result ≡ progress_fits t.now p.sizes.cores p.sizes.processes p.sizes.channels p.number }
 {
-    let n = table::process_word(t, cores, p, layout::PROCESS_PROGRESS);
+    let n = p.word(t, layout::PROCESS_PROGRESS);
     if has_guards(n) {
-        choice_fits(t, cores, processes, channels, p, n)
+        choice_fits(t, p, n)
     } else {
-        exchange_fits(t, cores, processes, channels, p, n)
+        exchange_fits(t, p, n)
     }
 }

@@ -1,3 +1,3 @@
 pub mod Tests
 pub mod Runs
-pub mod Zeros
+pub mod AllZero

@@ -1,36 +1,38 @@
 // A core's own words.
-ghost use Rattle.std.specs.Prelude.{◌≡◌, ◌≤◌, length};
-ghost use Rattle.rules.specs.Layout.{core_at, core_stride};
+ghost use Rattle.std.specs.Prelude.{◌≡◌};
+ghost use Rattle.table.specs.Has.{HasCore};
 ghost use Rattle.fitting.specs.Twin.{work_fits, core_fits};
 
-use crate::read;
+use crate::zeros;
+use layout::TaskKind;
+use table::{Core, Record, within};
 
 // Task q only where nothing runs.
 fn work_fits(processes: u32, running: u32, task: u32, q: u32) -> bool
     ensures { result ≡ work_fits processes running task q }
 {
     if running != 0 {
-        (running <= processes) & (task == layout::TASK_NONE) & (q == 0)
-    } else if task == layout::TASK_NONE {
+        (running <= processes) & (task == TaskKind::None as u32) & (q == 0)
+    } else if task == TaskKind::None as u32 {
         q == 0
     } else {
-        (task <= layout::TASK_WAKE) & ((1 <= q) & (q <= processes))
+        (task <= TaskKind::Wake as u32) & within(1, processes, q)
     }
 }
 
 // Running process and task, dispatch count, mark, unused words.
-pub fn core_fits(t: &[u32], processes: u32, k: usize) -> bool
-    requires { core_at k core_stride ≤ length t.now }
-    ensures { result ≡ core_fits t.now processes k }
+pub fn core_fits(t: &[u32], processes: u32, core: Core) -> bool
+    requires { HasCore t.now core.0 }
+    ensures { result ≡ core_fits t.now processes core.0 }
 {
     let work = work_fits(
         processes,
-        table::core_word(t, k, layout::CORE_RUNS),
-        table::core_word(t, k, layout::CORE_TASK),
-        table::core_word(t, k, layout::CORE_TASK_PROCESS),
+        core.word(t, layout::CORE_RUNS),
+        core.word(t, layout::CORE_TASK),
+        core.word(t, layout::CORE_TASK_PROCESS),
     );
-    let unused = read::core_at(t, k, layout::CORE_SPARE);
-    work & (table::core_word(t, k, layout::CORE_DISPATCH) <= 32)
-        & (table::core_word(t, k, layout::CORE_MARK) <= 1)
-        & read::zeros(t, unused, layout::CORE_STRIDE - layout::CORE_SPARE)
+    let unused = core.at(t, layout::CORE_SPARE);
+    work & (core.word(t, layout::CORE_DISPATCH) <= 32)
+        & (core.word(t, layout::CORE_MARK) <= 1)
+        & zeros(t, unused, layout::CORE_STRIDE - layout::CORE_SPARE)
 }

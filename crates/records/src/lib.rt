@@ -2,7 +2,25 @@
 // its own.)
 #![tactic(auto)]
 
+ghost use Rattle.std.specs.Prelude.{◌≡◌, ◌+◌, ◌≤◌, ◌&&◌, ◌==◌, true, length};
+ghost use Rattle.std.specs.List.{fold};
+ghost use Rattle.fitting.specs.Twin.{zeros};
+
 pub mod channels; // a channel
 pub mod cores; // a core's own words
 pub mod header; // the header
-pub mod read; // words and their addresses
+
+// The words are all 0. All are read, so that several can be at a time.
+fn are_zero(words: &[u32]) -> bool
+    ensures { result ≡ fold (λ all w. all && w == 0) true words.now }
+{
+    words.iter().fold(true, |all, w| all & (*w == 0))
+}
+
+// The `count` words from `from` on are 0.
+pub fn zeros(t: &[u32], from: usize, count: usize) -> bool
+    requires { from + count ≤ length t.now }
+    ensures { result ≡ zeros t.now from count }
+{
+    are_zero(&t[from..from + count])
+}

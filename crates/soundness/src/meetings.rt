@@ -1,17 +1,18 @@
 // Who was met so far, a word for each process: 0 not met, 1 running, 2 in a queue, 3 the head of a batch.
-ghost use Rattle.std.specs.Prelude.{◌≡◌, ◌≤◌, length, set, if◌then◌else◌};
-ghost use Rattle.rules.specs.Layout.{core_at, core_stride};
+ghost use Rattle.std.specs.Prelude.{◌≡◌, ◌≤◌, set, if◌then◌else◌};
+ghost use Rattle.table.specs.Has.{HasCore};
 ghost use Rattle.fitting.specs.Twin.{fresh};
 ghost use Rattle.soundness.specs.Parts.{outcome, core_enters, marked};
 
-use records::{cores, read};
+use records::cores;
+use table::{Core, Record, within};
 
 // Meets p, unless there is no such process or it was met before.
 pub fn meet(met: &mut [u32; 257], processes: u32, p: u32, mark: u32) -> bool
     requires { processes ≤ 256 }
     ensures { (result ≡ fresh processes met.old p) × (met.new ≡ (if result then set met.old p mark else met.old)) }
 {
-    if !read::within(1, processes, p) {
+    if !within(1, processes, p) {
         return false;
     }
     let i = p as usize;
@@ -23,14 +24,14 @@ pub fn meet(met: &mut [u32; 257], processes: u32, p: u32, mark: u32) -> bool
 }
 
 // A core's own words fit, and its running process is met.
-pub fn enter_core(t: &[u32], processes: u32, k: usize, met: &mut [u32; 257]) -> bool
-    requires { (core_at k core_stride ≤ length t.now) × (processes ≤ 256) }
-    ensures { outcome result met.new ≡ core_enters t.now processes k met.old }
+pub fn enter_core(t: &[u32], processes: u32, core: Core, met: &mut [u32; 257]) -> bool
+    requires { (HasCore t.now core.0) × (processes ≤ 256) }
+    ensures { outcome result met.new ≡ core_enters t.now processes core.0 met.old }
 {
-    if !cores::core_fits(t, processes, k) {
+    if !cores::core_fits(t, processes, core) {
         return false;
     }
-    let running = table::core_word(t, k, layout::CORE_RUNS);
+    let running = core.word(t, layout::CORE_RUNS);
     if running == 0 {
         return true;
     }

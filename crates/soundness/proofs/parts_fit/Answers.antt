@@ -13,13 +13,13 @@ meets_one : (r : Bool) (N p : ℕ) (met after : List ℕ) → (r ≡ fresh N met
     → (fresh N met p ≡ true) × (after ≡ set met p 2)
 meets_one r N p met after e met_it = (sym e.0 ∙ met_it, rw met_it at e.1)
 
-pub check-init : goal.check-init
-check-init c = record { in_range = omega arith; long = refl; left = no_core_met _ _ _ _ }
+pub cores-init : goal.cores-init
+cores-init c = record { in_range = omega arith; long = refl; left = no_core_met _ _ _ _ }
 
-pub returns-then-k-cores : goal.returns-then-k-cores
-returns-then-k-cores c =
-    let at = c.check in
-    c.rest_fits.ensures ∙ sym (at.invariant.left ∙ no_core_left _ _ _ _ at.k at.met c.if-k-cores.true)
+pub returns : goal.returns
+returns c =
+    let at = c.cores in
+    c.rest_fits.ensures ∙ sym (at.invariant.left ∙ no_core_left _ _ _ _ _ at.met (omega arith))
 
 pub queues-init : goal.queues-init
 queues-init c =
@@ -28,27 +28,27 @@ queues-init c =
     let e = all_well entered.result entered.new.met _ c.if-not-enter_core.false entered.ensures in
     record {
       in_range = omega arith;
-      long = entered_long a.t.now a.processes c.check.k c.check.met _ e ∙ c.check.invariant.long;
-      left = c.check.invariant.left ∙ core_entered _ _ _ _ c.check.k c.check.met _ (omega arith) e;
+      long = entered_long a.t.now a.sizes.processes c.cores.k c.cores.met _ e ∙ c.cores.invariant.long;
+      left = c.cores.invariant.left ∙ core_entered _ _ _ _ c.cores.k c.cores.met _ (omega arith) e;
     }
 
 pub overflow_add-size : goal.overflow_add-size
 overflow_add-size c =
-    omega (arith, unmet_le c.args.processes c.queues.met)
+    omega (arith, unmet_le c.args.sizes.processes c.queues.met)
 
 pub loop-p-smaller : goal.loop-p-smaller
 loop-p-smaller c =
     let a = c.args in
-    let met = meets_one c.meet.result a.processes c.loop-p.p c.loop-p.met c.meet.new.met c.meet.ensures c.if-not-meet.false in
-    rw met.1 (met_anew a.t.now a.cores a.processes c.loop-p.met c.loop-p.p 2 (omega arith) refl met.0)
+    let met = meets_one c.meet.result a.sizes.processes c.loop-p.p c.loop-p.met c.meet.new.met c.meet.ensures c.if-not-meet.false in
+    rw met.1 (met_anew a.t.now a.sizes.cores a.sizes.processes c.loop-p.met c.loop-p.p 2 (omega arith) refl met.0)
 
 pub loop-p-preserved : goal.loop-p-preserved
 loop-p-preserved c =
     let a = c.args in
     let l = c.loop-p in
-    let met = meets_one c.meet.result a.processes c.loop-p.p c.loop-p.met c.meet.new.met c.meet.ensures c.if-not-meet.false in
-    let less = met_anew a.t.now a.cores a.processes l.met l.p 2 (omega arith) refl met.0 in
-    rw (met.1, c.process_word-p.ensures)
+    let met = meets_one c.meet.result a.sizes.processes c.loop-p.p c.loop-p.met c.meet.new.met c.meet.ensures c.if-not-meet.false in
+    let less = met_anew a.t.now a.sizes.cores a.sizes.processes l.met l.p 2 (omega arith) refl met.0 in
+    rw (met.1, c.word-p.ensures)
     (record {
       first = λ z. absurd (omega arith);
       counted = omega arith;
@@ -60,7 +60,7 @@ loop-p-preserved c =
 pub queues-smaller : goal.queues-smaller
 queues-smaller c =
     let a = c.args in
-    let fewer = marked_unmet c.loop-p.met c.queues.queue a.processes (omega arith) in
+    let fewer = marked_unmet c.loop-p.met c.queues.queue a.sizes.processes (omega arith) in
     let falls =
     queue_falls a.t.now _ c.queues.queue _ c.loop-p.p _ c.loop-p.size _ _ _ c.if-queue-eq0.false c.loop-p-test.false
     c.loop-p.invariant.first c.first_of-p.ensures c.loop-p.invariant.counted fewer in
@@ -70,21 +70,21 @@ pub queues-preserved : goal.queues-preserved
 queues-preserved c =
     let l = c.loop-p in
     let a = c.args in
-    let k = c.check.k in
+    let k = c.cores.k in
     let queue = c.queues.queue in
-    let some : next_head a.t.now a.cores k queue ≡ 0 → ⊥ = λ z. c.if-queue-eq0.false (c.next_head-queue.ensures ∙ z) in
+    let some : next_head a.t.now a.sizes.cores k queue ≡ 0 → ⊥ = λ z. c.if-queue-eq0.false (c.next_head-queue.ensures ∙ z) in
     let ends =
     answered _ _ _ c.queue_ends.ensures c.if-not-queue_ends.false in
     rw (c.mark_head.ensures, c.next_head-queue.ensures)
     (record {
-      in_range = next_inside a.t.now a.cores a.processes a.channels k l.met queue l.p l.last l.size ends some;
-      long = marked_long l.met queue a.processes ∙ l.invariant.long;
+      in_range = next_inside a.t.now a.sizes.cores a.sizes.processes a.sizes.channels k l.met queue l.p l.last l.size ends some;
+      long = marked_long l.met queue a.sizes.processes ∙ l.invariant.long;
       left = l.invariant.left
           ∙ next_queue _ _ _ _ k l.met queue l.p l.last l.size (omega arith) c.loop-p-test.false ends some;
     })
 
-pub check-preserved : goal.check-preserved
-check-preserved c =
+pub cores-preserved : goal.cores-preserved
+cores-preserved c =
     let l = c.loop-p in
     let a = c.args in
     let ends =
@@ -93,14 +93,14 @@ check-preserved c =
     rw c.mark_head.ensures
     (record {
       in_range = omega arith;
-      long = marked_long l.met c.queues.queue a.processes ∙ l.invariant.long;
+      long = marked_long l.met c.queues.queue a.sizes.processes ∙ l.invariant.long;
       left = l.invariant.left
           ∙ last_queue _ _ _ _ _ l.met _ l.p l.last l.size c.loop-p-test.false ends none;
     })
 
 pub returns-then-not-enter_core : goal.returns-then-not-enter_core
 returns-then-not-enter_core c =
-    let at = c.check in
+    let at = c.cores in
     let entered = c.enter_core in
     let flawed = not_well entered.result entered.new.met _ c.if-not-enter_core.true entered.ensures in
     sym (at.invariant.left ∙ core_refused _ _ _ _ at.k at.met (omega arith) flawed)

@@ -1,6 +1,6 @@
 -- Three loops: what the check's definition still asks at each place is what it asks of the whole. A flaw makes that false, wherever it is.
--- What falls: the cores left; from queue to queue and from process to process, how many are unmet.
-use Rattle.std.proofs.Common.{◌+◌, ◌-◌, eqb}
+-- What falls: from queue to queue and from process to process, how many are unmet.
+use Rattle.std.proofs.Common.{◌+◌, eqb}
 use Rattle.rules.specs.Lists.{bit}
 use Rattle.soundness.proofs.Unmet.{unmet}
 use Rattle.soundness.proofs.Left.{AtCore, AtQueue, AtProcess}
@@ -8,19 +8,16 @@ use Rattle.soundness.proofs.parts_fit.Given as goal
 
 abbrev pub invariant-loop-p : goal.invariant-loop-p
 invariant-loop-p l =
-    AtProcess l.t l.cores l.processes l.channels l.k l.queue l.initial.met l.initial.p l.met l.p l.last l.size
+    AtProcess l.t l.sizes.cores l.sizes.processes l.sizes.channels l.k l.queue l.initial.met l.initial.p l.met l.p l.last l.size
 
 abbrev pub decreases-loop-p : goal.decreases-loop-p
-decreases-loop-p l = unmet l.processes l.met
+decreases-loop-p l = unmet l.sizes.processes l.met
 
 abbrev pub invariant-queues : goal.invariant-queues
-invariant-queues l = AtQueue l.t l.cores l.processes l.channels l.k l.met l.queue
+invariant-queues l = AtQueue l.t l.sizes.cores l.sizes.processes l.sizes.channels l.k l.met l.queue
 
 abbrev pub decreases-queues : goal.decreases-queues
-decreases-queues l = unmet l.processes l.met + bit (eqb l.queue 0)
+decreases-queues l = unmet l.sizes.processes l.met + bit (eqb l.queue 0)
 
-abbrev pub invariant-check : goal.invariant-check
-invariant-check l = AtCore l.t l.cores l.processes l.channels l.k l.met
-
-abbrev pub decreases-check : goal.decreases-check
-decreases-check l = l.cores - l.k
+abbrev pub invariant-cores : goal.invariant-cores
+invariant-cores l = AtCore l.t l.sizes.cores l.sizes.processes l.sizes.channels l.k l.met

@@ -2,23 +2,19 @@ use Rattle.std.proofs.Common.{◌+◌, sym, ◌∙◌, arith}
 use Rattle.processes.proofs.Guards.{twice, once}
 use Rattle.processes.proofs.progress.guards_fit.Goals as goal
 
-pub returns-then-stands_among : goal.returns-then-stands_among
-returns-then-stands_among c =
-    let at = c.loop-at in
-    let a = c.args in
+pub returns-then-contains : goal.returns-then-contains
+returns-then-contains c =
+    let sizes = c.args.p.sizes in
     sym
-    (at.invariant.1
-    ∙ twice a.t.now a.cores a.processes a.channels a.p at.at (a.from + a.count) c.loop-at-test.true
-    c.word-c.ensures c.end_fits.ensures c.if-not-end_fits.false
-    c.stands_among.ensures c.if-stands_among.true)
+    (c.loop-at.invariant
+    ∙ twice c.args.t.now sizes.cores sizes.processes sizes.channels c.args.p.number c.loop-at.at (c.args.from + c.args.count) (omega arith) (omega arith)
+    (sym c.end_fits.ensures ∙ c.if-not-end_fits.false)
+    (sym c.contains.ensures.value ∙ c.if-contains.true))
 
 pub loop-at-preserved : goal.loop-at-preserved
 loop-at-preserved c =
-    let at = c.loop-at in
-    let a = c.args in (
-      omega arith,
-      at.invariant.1
-          ∙ once a.t.now a.cores a.processes a.channels a.p at.at (a.from + a.count) c.loop-at-test.true
-          c.word-c.ensures c.end_fits.ensures c.if-not-end_fits.false
-          c.stands_among.ensures c.if-stands_among.false,
-    )
+    let sizes = c.args.p.sizes in
+    c.loop-at.invariant
+    ∙ once c.args.t.now sizes.cores sizes.processes sizes.channels c.args.p.number c.loop-at.at (c.args.from + c.args.count) (omega arith) (omega arith)
+    (sym c.end_fits.ensures ∙ c.if-not-end_fits.false)
+    (sym c.contains.ensures.value ∙ c.if-contains.false)
