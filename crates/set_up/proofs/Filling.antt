@@ -3,11 +3,10 @@ use Rattle.std.specs.Prelude.{if◌then◌else◌}
 use Prim.Native.Nat.{ℕ, zero, suc, ◌+◌, ◌*◌, ◌-◌, ◌≤◌, ◌<◌}
 use mathlib.Core.Path.{◌≡◌, refl, sym, ap, ◌∙◌, subst}
 use mathlib.Core.Bool.{Bool, true, false}
-use mathlib.Core.List.{List, [], ◌∷◌, ◌++◌, append-nil}
+use mathlib.Core.List.{List, [], ◌∷◌, ◌++◌}
 use native.Mathlib.Omega.{arith}
 use lib.Dec.{T, ltb}
-use lib.ListN.{length, get_or, set, replicate, length-replicate, replicate-append-replicate, length-append, length-map, drop_of_length-le}
-use lib.Seq.{sets, sets-eq}
+use lib.ListN.{length, get_or, set, replicate, length-replicate, replicate-append-replicate, length-append, length-map}
 use borrow.Author.Tests.{lt-ltb, le-ltb, ltb-true, ltb-false}
 use Rattle.rules.specs.State.{State}
 use Rattle.rules.specs.Items.{channel_of, Region, processes, channels}
@@ -30,24 +29,11 @@ use Rattle.set_up.proofs.NewState.{new_core_words, new_process_words, new_channe
 abbrev zeros : ℕ → List ℕ
 zeros n = replicate n 0
 
--- n of them
-length_zeros : (n : ℕ) → length (zeros n) ≡ n
-length_zeros n = length-replicate {A = ℕ} n 0
-
 -- each is 0
 zeros_at : (n i : ℕ) → get_or (zeros n) i 0 ≡ 0
 zeros_at zero i = refl
 zeros_at (suc n) zero = refl
 zeros_at (suc n) (suc i) = zeros_at n i
-
--- all words of a list become 0
-zeroed : (t : List ℕ) → sets t 0 (zeros (length t)) ≡ zeros (length t)
-zeroed t =
-    let long = length_zeros (length t) in
-    let over : length t ≤ 0 + length (zeros (length t)) = omega arith in
-    sets-eq (zeros (length t)) t 0 (omega arith)
-    ∙ ap (λ (l : List ℕ). zeros (length t) ++ l) (drop_of_length-le t over)
-    ∙ append-nil (zeros (length t))
 
 -- Words that are filled in up to the block i
 
@@ -85,7 +71,7 @@ fills : (r : Region) (d : Dims) (w v : Words) (j : ℕ) (ws : List (ℕ × ℕ))
 fills r d w v j ws l t has inside none e same held =
     holds_same d (focus r j l w) v _ same
     (subst (λ (m : List ℕ). Holds d (focus r j m w) (writes ws (address d r j) t)) e
-    (focus_writes r d w j (λ f. f) ws (zeros (size_in r)) t has (length_zeros (size_in r)) inside
+    (focus_writes r d w j (λ f. f) ws (zeros (size_in r)) t has (length-replicate (size_in r) 0) inside
     (focus_start r d w j (zeros (size_in r)) t (λ f. none f ∙ sym (zeros_at (size_in r) f)) held)))
 
 -- what a table holds after writes that are made number by number
@@ -162,7 +148,7 @@ module _ (k n m : ℕ) (pairs : List ℕ) (some_core : 0 < k) (paired : length p
   unfolding header_words
   bare_split =
       let sum : room k n m ≡ header_size + (room k n m - header_size) = omega arith in
-      ap (λ (l : List ℕ). set (set (set l header_cores k) header_processes n) header_channels m)
+      ap (λ (l : List ℕ). set (set (set l header_cores k) header_processes n) header_channels m) {y = zeros header_size ++ tail}
       (ap zeros sum ∙ sym (replicate-append-replicate header_size (room k n m - header_size) 0))
       ∙ ap (λ (e : Dims). e.K ∷ e.N ∷ e.M ∷ spare header_size header_spare ++ tail) (sym dims_of)
 
@@ -180,7 +166,7 @@ module _ (k n m : ℕ) (pairs : List ℕ) (some_core : 0 < k) (paired : length p
   bare_holds =
       rw bare_split
       (record {
-        size = length-append (header_words s) tail ∙ omega (arith, length_zeros (room k n m - header_size));
+        size = length-append (header_words s) tail ∙ omega (arith, length-replicate {A = ℕ} (room k n m - header_size) 0);
         header = λ f b. first_part (header_words s) tail header_size f refl b;
         core = λ i f b b'. bare_zeros (core_at i f) (omega arith) ∙ sym (ap (λ (l : List ℕ). get_or l f 0) (new_core_words k n pairs some_core i b) ∙ zeros_at core_stride f);
         process = λ i f low b b'. bare_zeros (process_at k i f) (omega arith) ∙ sym (none_from 1 (words_of s).process i f low);
@@ -215,7 +201,7 @@ module _ (k n m : ℕ) (pairs t : List ℕ) (ready : Ready k n m (length pairs) 
   written_packs : Packs written k n (batched k n pairs ready.core 0)
   written_packs =
       record {
-        is_pack = rw (zeroed t, ready.table) (filled_packs k n m pairs ready.core ready.pairs);
+        is_pack = rw ready.table (filled_packs k n m pairs ready.core ready.pairs);
         all_cores = sym (length_tabulate (new_core k 0) 0 k);
         all_processes = sym (length_tabulate new_process 1 n);
       }

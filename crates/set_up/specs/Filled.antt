@@ -1,26 +1,23 @@
 -- What set-up returns and writes, number by number.
-use Rattle.std.specs.Prelude.{ℕ, zero, suc, ◌+◌, ◌*◌, ◌-◌, ◌%◌, ◌≤◌, ◌<◌, ◌≡◌, Bool, ◌&&◌, List, length, get_or, set, replicate, if◌then◌else◌}
+use Rattle.std.specs.Prelude.{⊤, Result, Ok, Err, ℕ, zero, suc, ◌+◌, ◌*◌, ◌-◌, ◌%◌, ◌≤◌, ◌<◌, ◌≡◌, List, length, get_or, set, replicate}
 use Rattle.std.proofs.Math.Option.{Option, none, some}
-use Rattle.std.proofs.lemmas.List.Edits.{sets}
-use Rattle.rules.specs.Lists.{within}
-use Rattle.rules.specs.Numbers.{Refusal, NAME, SELF, no_because, number_of}
+use Rattle.rules.specs.Numbers.{Refusal, no_because, number_of}
 use Rattle.rules.specs.Layout.{process_at, channel_at, room, header_cores, header_processes, header_channels, process_place, process_progress, channel_writer, channel_reader, place_queued, due_go}
+use Rattle.answers.specs.Said.{because}
+use Rattle.answers.specs.declared.Refusal as code
 use Rattle.packing.specs.Queues.{push_table}
 use Rattle.queues.specs.Fits.{CanPush, CanStore}
 use Rattle.queues.specs.RunQueue.{stored_table}
+
+-- what a test found, in the rules' terms
+abbrev pub flaw : Result ⊤ code.Refusal → Option Refusal
+flaw (Ok done) = none
+flaw (Err why) = some (because why)
 
 -- the number of a refusal; 0 where there is none
 abbrev pub flaw_number : Option Refusal → ℕ
 flaw_number none = 0
 flaw_number (some why) = number_of (no_because why)
-
--- writer and reader of a channel are among n processes
-abbrev pub both_named : ℕ → ℕ → ℕ → Bool
-both_named n writer reader = within 1 n writer && within 1 n reader
-
--- the number of a pair's flaw, by its tests; of what comes after where it has none
-abbrev pub flaw_by : Bool → Bool → Option Refusal → ℕ
-flaw_by named same later = flaw_number (if named then (if same then some SELF else later) else some NAME)
 
 -- f a, then f (a + 1), .. (n of them)
 abbrev pub in_turn : (ℕ → List ℕ → List ℕ) → ℕ → ℕ → List ℕ → List ℕ
@@ -31,7 +28,7 @@ in_turn f a (suc n) t = in_turn f (suc a) n (f a t)
 
 -- all words are 0 but the header's three
 abbrev pub header_filled : ℕ → ℕ → ℕ → List ℕ → List ℕ
-header_filled k n m t = set (set (set (sets t 0 (replicate (length t) 0)) header_cores k) header_processes n) header_channels m
+header_filled k n m t = set (set (set (replicate (length t) 0) header_cores k) header_processes n) header_channels m
 
 -- process p is queued, with GO due
 abbrev pub process_filled : ℕ → ℕ → List ℕ → List ℕ

@@ -2,212 +2,156 @@
 #![tactic(auto)]
 
 ghost use Rattle.std.specs.Prelude.{◌≡◌, [], ◌∷◌, ℕ, suc, ◌*◌, ◌≤◌, ◌<◌, length};
-ghost use Rattle.std.proofs.Math.Option.{none};
-ghost use Rattle.rules.specs.Lists.{within};
-ghost use Rattle.rules.specs.SetUp.{sizes, ends_of, proper_pairs, set_up_refusal, set_up_state};
+ghost use Rattle.rules.specs.SetUp.{ends_of, proper_pairs, set_up_refusal, set_up_state};
 ghost use Rattle.rules.specs.Layout.{header_size, channels_at, room};
 ghost use Rattle.rules.specs.Packing.{pack};
 ghost use Rattle.rules.specs.Calls.{set_up_call};
 ghost use Rattle.table.specs.Has.{HasProcess, HasChannel};
-ghost use Rattle.set_up.specs.Filled.{flaw_number, both_named, flaw_by, in_turn, header_filled, process_filled, channel_filled, alone, in_batches, CanStandAlone, Ready};
+ghost use Rattle.set_up.specs.Filled.{flaw, flaw_number, in_turn, header_filled, process_filled, channel_filled, alone, in_batches, CanStandAlone, Ready};
 
-// x is one of low, .. high.
-fn lies_in(low: u32, high: u32, x: u32) -> bool
-    ensures { result ≡ within low high x }
+use answers::Refusal;
+use layout::Place;
+use layout::progress::Outcome;
+use table::{Channel, Core, Process, Record, Sizes, within};
+
+// NAME where the writer or the reader is none of the n processes, before SELF where both are one.
+fn check_pair(n: u32, writer: u32, reader: u32) -> Result<(), Refusal>
+    ensures { flaw result ≡ proper_pairs n (record { writer = writer; reader = reader } ∷ []) }
 {
-    low <= x && x <= high
+    if !(within(1, n, writer) && within(1, n, reader)) {
+        return Err(Refusal::Name);
+    }
+    if writer == reader {
+        return Err(Refusal::SameProcess);
+    }
+    Ok(())
 }
 
-// K, N and M are within their limits.
-fn sized(k: u32, n: u32, m: u32) -> bool
-    ensures { result ≡ sizes k n m }
+// What is wrong with the first bad pair.
+fn check_pairs(n: u32, pairs: &[u32]) -> Result<(), Refusal>
+    ensures { flaw result ≡ proper_pairs n (ends_of pairs.now) }
 {
-    if !lies_in(1, 8, k) {
-        return false;
+    for pair in pairs.chunks_exact(2) {
+        check_pair(n, pair[0], pair[1])?;
     }
-    if !lies_in(1, 256, n) {
-        return false;
-    }
-    lies_in(0, 256, m)
+    Ok(())
 }
 
-// The writer and the reader of a channel are processes, of which there are n.
-fn are_named(n: u32, writer: u32, reader: u32) -> bool
-    ensures { result ≡ both_named n writer reader }
+// Why set-up is refused, for a table of `size` words.
+fn check(sizes: Sizes, pairs: &[u32], size: usize) -> Result<(), Refusal>
+    ensures { flaw result ≡ set_up_refusal sizes.cores sizes.processes sizes.channels pairs.now size }
 {
-    if !lies_in(1, n, writer) {
-        return false;
+    if !sizes.are_allowed() {
+        return Err(Refusal::Size);
     }
-    lies_in(1, n, reader)
+    if pairs.len() != 2 * sizes.channels as usize {
+        return Err(Refusal::Pairs);
+    }
+    if size != sizes.room() {
+        return Err(Refusal::Room);
+    }
+    check_pairs(sizes.processes, pairs)
 }
 
-// What is wrong with a pair, by its tests: NAME before SELF; 0 for nothing.
-fn flaw_of(named: bool, same: bool) -> u32
-    ensures { result ≡ flaw_by named same none }
+// K, N and M, and no word else, whatever the table held.
+fn fill_header(t: &mut [u32], sizes: Sizes)
+    requires { header_size ≤ length t.old }
+    ensures { t.new ≡ header_filled sizes.cores sizes.processes sizes.channels t.old }
 {
-    if !named {
-        return answers::NAME;
-    }
-    if same {
-        return answers::SELF;
-    }
-    0
-}
-
-// What is wrong with a pair.
-fn pair_flaw(n: u32, writer: u32, reader: u32) -> u32
-    ensures { result ≡ flaw_number (proper_pairs n (record { writer = writer; reader = reader } ∷ [])) }
-{
-    flaw_of(are_named(n, writer, reader), writer == reader)
-}
-
-// What is wrong with the first bad pair of m channels; 0 where none is bad.
-fn pairs_flaw(n: u32, m: usize, pairs: &[u32]) -> u32
-    requires { length pairs.now ≡ 2 * m }
-    ensures { result ≡ flaw_number (proper_pairs n (ends_of pairs.now)) }
-{
-    let mut c = 0;
-    while c < m {
-        let why = pair_flaw(n, pairs[2 * c], pairs[2 * c + 1]);
-        if why != 0 {
-            return why;
-        }
-        c += 1;
-    }
-    0
-}
-
-// Why set-up is refused, for a table of `size` words; 0 where it isn't.
-fn refusal(k: u32, n: u32, m: u32, pairs: &[u32], size: usize) -> u32
-    ensures { result ≡ flaw_number (set_up_refusal k n m pairs.now size) }
-{
-    if !sized(k, n, m) {
-        return answers::SIZE;
-    }
-    let cores = k as usize;
-    let processes = n as usize;
-    let channels = m as usize;
-    if pairs.len() != 2 * channels {
-        return answers::PAIRS;
-    }
-    if size != table::room(cores, processes, channels) {
-        return answers::ROOM;
-    }
-    pairs_flaw(n, channels, pairs)
+    t.fill(0);
+    t[layout::HEADER_CORES] = sizes.cores;
+    t[layout::HEADER_PROCESSES] = sizes.processes;
+    t[layout::HEADER_CHANNELS] = sizes.channels;
 }
 
 // Process p is queued, with GO due.
-fn fill_process(t: &mut [u32], k: u32, p: u32)
-    requires { HasProcess t.old k p }
-    ensures { t.new ≡ process_filled k p t.old }
+fn fill_process(t: &mut [u32], p: Process)
+    requires { HasProcess t.old p.sizes.cores p.number }
+    ensures { t.new ≡ process_filled p.sizes.cores p.number t.old }
 {
-    let cores = k as usize;
-    table::set_process_word(t, cores, p, layout::PROCESS_PLACE, layout::PLACE_QUEUED);
-    table::set_process_word(t, cores, p, layout::PROCESS_PROGRESS, layout::DUE_GO);
+    p.set(t, layout::PROCESS_PLACE, Place::Queued as u32);
+    p.set(t, layout::PROCESS_PROGRESS, Outcome::Go.number());
 }
 
-// The n processes.
-fn fill_processes(t: &mut [u32], k: u32, n: u32)
-    requires lies_in { channels_at k n ≤ length t.old }
-    requires few_cores { k ≤ 8 }
-    requires few_processes { n ≤ 256 }
-    ensures { t.new ≡ in_turn (process_filled k) 1 n t.old }
+// The processes.
+#[tactic(auto, using(crate::proofs::Turns::one_turn))]
+fn fill_processes(t: &mut [u32], sizes: Sizes)
+    requires lies_in { channels_at sizes.cores sizes.processes ≤ length t.old }
+    requires few_processes { sizes.processes ≤ 256 }
+    ensures { t.new ≡ in_turn (process_filled sizes.cores) 1 sizes.processes t.old }
 {
-    let mut p = 1;
-    while p <= n {
-        fill_process(t, k, p);
-        p += 1;
+    for p in 1..=sizes.processes {
+        fill_process(t, Process { sizes, number: p });
     }
 }
 
 // Channel c, with its writer and its reader.
-fn fill_channel(t: &mut [u32], k: u32, n: u32, pairs: &[u32], c: u32)
-    requires channel { HasChannel t.old k n c }
-    requires pairs_lie_in { 2 * c ≤ length pairs.now }
-    ensures { t.new ≡ channel_filled k n pairs.now c t.old }
+fn fill_channel(t: &mut [u32], c: Channel, pairs: &[u32])
+    requires channel { HasChannel t.old c.sizes.cores c.sizes.processes c.number }
+    requires pairs_lie_in { 2 * c.number ≤ length pairs.now }
+    ensures { t.new ≡ channel_filled c.sizes.cores c.sizes.processes pairs.now c.number t.old }
 {
-    let cores = k as usize;
-    let processes = n as usize;
-    let i = c as usize;
-    let writer = pairs[2 * (i - 1)];
-    let reader = pairs[2 * (i - 1) + 1];
-    table::set_channel_word(t, cores, processes, c, layout::CHANNEL_WRITER, writer);
-    table::set_channel_word(t, cores, processes, c, layout::CHANNEL_READER, reader);
+    let i = 2 * (c.number as usize - 1);
+    c.set(t, layout::CHANNEL_WRITER, pairs[i]);
+    c.set(t, layout::CHANNEL_READER, pairs[i + 1]);
 }
 
-// The m channels.
-fn fill_channels(t: &mut [u32], k: u32, n: u32, m: u32, pairs: &[u32])
-    requires lies_in { room k n m ≤ length t.old }
-    requires pairs_lie_in { 2 * m ≤ length pairs.now }
-    requires few_channels { m ≤ 256 }
-    ensures { t.new ≡ in_turn (channel_filled k n pairs.now) 1 m t.old }
+// The channels.
+#[tactic(auto, using(crate::proofs::Turns::one_turn))]
+fn fill_channels(t: &mut [u32], sizes: Sizes, pairs: &[u32])
+    requires lies_in { room sizes.cores sizes.processes sizes.channels ≤ length t.old }
+    requires pairs_lie_in { 2 * sizes.channels ≤ length pairs.now }
+    requires few_channels { sizes.channels ≤ 256 }
+    ensures { t.new ≡ in_turn (channel_filled sizes.cores sizes.processes pairs.now) 1 sizes.channels t.old }
 {
-    let mut c = 1;
-    while c <= m {
-        fill_channel(t, k, n, pairs, c);
-        c += 1;
+    for c in 1..=sizes.channels {
+        fill_channel(t, Channel { sizes, number: c }, pairs);
     }
 }
 
-// K, N and M, and no word else, whatever the table held.
-fn fill_header(t: &mut [u32], k: u32, n: u32, m: u32)
-    requires { header_size ≤ length t.old }
-    ensures { t.new ≡ header_filled k n m t.old }
+// Process p is alone in a batch on core (p - 1) mod K, the last one there.
+fn stand_alone(t: &mut [u32], p: Process)
+    requires can_stand { CanStandAlone t.old p.sizes.cores p.number }
+    requires some_core { 1 ≤ p.sizes.cores }
+    requires from_one { 1 ≤ p.number }
+    ensures { t.new ≡ alone p.sizes.cores p.number t.old }
 {
-    let size = t.len();
-    table::zero_words(t, 0, size);
-    t[layout::HEADER_CORES] = k;
-    t[layout::HEADER_PROCESSES] = n;
-    t[layout::HEADER_CHANNELS] = m;
+    let core = Core((p.number - 1) % p.sizes.cores);
+    queues::push(t, core, p);
+    queues::store(t, p.sizes, core);
 }
 
-// Process p is alone in a batch on core (p - 1) mod k, the last one there.
-fn stand_alone(t: &mut [u32], k: u32, p: u32)
-    requires can_stand { CanStandAlone t.old k p }
-    requires some_core { 1 ≤ k }
-    requires from_one { 1 ≤ p }
-    ensures { t.new ≡ alone k p t.old }
+// The processes stand in batches, in order.
+#[tactic(auto, using(crate::proofs::Turns::one_batch))]
+fn fill_queues(t: &mut [u32], sizes: Sizes)
+    requires can_stand { ((i : ℕ) → i < sizes.processes → CanStandAlone (in_batches sizes.cores i t.old) sizes.cores (suc i)) }
+    requires some_core { 1 ≤ sizes.cores }
+    requires few_processes { sizes.processes ≤ 256 }
+    ensures { t.new ≡ in_batches sizes.cores sizes.processes t.old }
 {
-    let cores = k as usize;
-    let j = ((p - 1) % k) as usize;
-    queues::push(t, cores, j, p);
-    queues::store(t, cores, j);
-}
-
-// The n processes stand in batches, in order.
-fn fill_queues(t: &mut [u32], k: u32, n: u32)
-    requires can_stand { ((i : ℕ) → i < n → CanStandAlone (in_batches k i t.old) k (suc i)) }
-    requires some_core { 1 ≤ k }
-    requires few_processes { n ≤ 256 }
-    ensures { t.new ≡ in_batches k n t.old }
-{
-    let mut p = 1;
-    while p <= n {
-        stand_alone(t, k, p);
-        p += 1;
+    for p in 1..=sizes.processes {
+        stand_alone(t, Process { sizes, number: p });
     }
 }
 
 // The whole table.
-fn fill(k: u32, n: u32, m: u32, pairs: &[u32], t: &mut [u32])
-    requires { Ready k n m (length pairs.now) (length t.old) }
-    ensures { t.new ≡ pack (set_up_state k n pairs.now) }
+fn fill(sizes: Sizes, pairs: &[u32], t: &mut [u32])
+    requires { Ready sizes.cores sizes.processes sizes.channels (length pairs.now) (length t.old) }
+    ensures { t.new ≡ pack (set_up_state sizes.cores sizes.processes pairs.now) }
 {
-    fill_header(t, k, n, m);
-    fill_processes(t, k, n);
-    fill_channels(t, k, n, m, pairs);
-    fill_queues(t, k, n);
+    fill_header(t, sizes);
+    fill_processes(t, sizes);
+    fill_channels(t, sizes, pairs);
+    fill_queues(t, sizes);
 }
 
-// Set-up: BUILT, 0, and the table built; or why it is refused, and nothing written.
-pub fn build(k: u32, n: u32, m: u32, pairs: &[u32], t: &mut [u32]) -> u32
-    ensures number { result ≡ (set_up_call k n m pairs.now t.old).number }
-    ensures table { t.new ≡ (set_up_call k n m pairs.now t.old).table }
+// Set-up: the table built; or why it is refused, and nothing written.
+#[tactic(auto, unfolding(rules::specs::Calls::set_up_call))]
+pub fn build(sizes: Sizes, pairs: &[u32], t: &mut [u32]) -> Result<(), Refusal>
+    ensures number { flaw_number (flaw result) ≡ (set_up_call sizes.cores sizes.processes sizes.channels pairs.now t.old).number }
+    ensures table { t.new ≡ (set_up_call sizes.cores sizes.processes sizes.channels pairs.now t.old).table }
 {
-    let why = refusal(k, n, m, pairs, t.len());
-    if why != 0 {
-        return why;
-    }
-    fill(k, n, m, pairs, t);
-    0
+    check(sizes, pairs, t.len())?;
+    fill(sizes, pairs, t);
+    Ok(())
 }

@@ -7,13 +7,15 @@ use Rattle.set_up.proofs.fill.Goals as goal
 pub fill_queues-requires-clause-can_stand : goal.fill_queues-requires-clause-can_stand
 fill_queues-requires-clause-can_stand c =
     let args = c.args in
+    let sizes = args.sizes in
     rw (c.fill_channels.ensures, c.fill_processes.ensures, c.fill_header.ensures)
-    (queues_fit args.k args.n args.m args.pairs.now args.t.now c.requires)
+    (queues_fit sizes.cores sizes.processes sizes.channels args.pairs.now args.t.now c.requires)
 
 pub returns : goal.returns
 returns c =
     let args = c.args in
+    let sizes = args.sizes in
     let e : c.fill_queues.new.t
-    ≡ in_batches args.k args.n (written args.k args.n args.m args.pairs.now args.t.now c.requires) =
+    ≡ in_batches sizes.cores sizes.processes (written sizes.cores sizes.processes sizes.channels args.pairs.now args.t.now c.requires) =
     rw (c.fill_queues.ensures, c.fill_channels.ensures, c.fill_processes.ensures, c.fill_header.ensures) in
-    e ∙ set_up_packs args.k args.n args.m args.pairs.now args.t.now c.requires
+    e ∙ set_up_packs sizes.cores sizes.processes sizes.channels args.pairs.now args.t.now c.requires

@@ -1,12 +1,7 @@
--- The channels still to be filled are the rest of them.
-use Rattle.std.proofs.Common.{◌+◌, ◌-◌, ◌≤◌, ◌≡◌, length}
+-- The channels before c are filled.
+use Rattle.std.proofs.Common.{◌+◌, ◌-◌, ◌≤◌, ◌≡◌}
 use Rattle.set_up.specs.Filled.{in_turn, channel_filled}
 use Rattle.set_up.proofs.fill_channels.Given as goal
 
 abbrev pub invariant-loop-c : goal.invariant-loop-c
-invariant-loop-c l =
-    (length l.t ≡ length l.initial.t) × (1 ≤ l.c)
-    × (in_turn (channel_filled l.k l.n l.pairs) 1 l.m l.initial.t ≡ in_turn (channel_filled l.k l.n l.pairs) l.c (l.m + 1 - l.c) l.t)
-
-abbrev pub decreases-loop-c : goal.decreases-loop-c
-decreases-loop-c l = l.m + 1 - l.c
+invariant-loop-c l = (l.c ≤ l.c-end + 1) × (l.t ≡ in_turn (channel_filled l.sizes.cores l.sizes.processes l.pairs) 1 (l.c - 1) l.initial.t)

@@ -1,29 +1,11 @@
-use Rattle.std.proofs.Common.{ℕ, ◌-◌, ◌≡◌, refl, ap, ◌∙◌, arith}
-use Rattle.set_up.specs.Filled.{in_batches}
-use Rattle.set_up.proofs.Turns.{next_fits, one_stands}
+-- The next process finds what it needs: those before it stand in batches.
+use Rattle.std.proofs.Common.{◌-◌, ◌≡◌, suc, subst, arith}
+use Rattle.set_up.specs.Filled.{in_batches, CanStandAlone}
 use Rattle.set_up.proofs.fill_queues.Goals as goal
-
-pub loop-p-init : goal.loop-p-init
-loop-p-init c = (refl, omega arith, omega arith, refl)
 
 pub stand_alone-requires-clause-can_stand : goal.stand_alone-requires-clause-can_stand
 stand_alone-requires-clause-can_stand c =
-    next_fits c.args.k _ _ _ (omega arith) c.loop-p.invariant.3 c.args.n c.requires.can_stand (omega arith)
-
-pub loop-p-preserved : goal.loop-p-preserved
-loop-p-preserved c =
-    let args = c.args in (
-      c.stand_alone.auto.t ∙ c.loop-p.invariant.0,
-      omega arith,
-      omega arith,
-      one_stands args.k args.t.now _ c.loop-p.p (omega arith) c.loop-p.invariant.3 _ c.stand_alone.ensures,
-    )
-
-pub shape_of-t : goal.shape_of-t
-shape_of-t c = c.loop-p.invariant.0
-
-pub returns : goal.returns
-returns c =
-    let args = c.args in
-    let all : c.loop-p.p - 1 ≡ args.n = omega arith in
-    c.loop-p.invariant.3 ∙ ap (λ (m : ℕ). in_batches args.k m args.t.now) all
+    let p = c.loop-p.p in
+    let k = c.args.sizes.cores in
+    let next : suc (p - 1) ≡ p = omega arith in
+    rw c.loop-p.invariant.1 (subst (CanStandAlone (in_batches k (p - 1) c.args.t.now) k) next (c.requires.can_stand (p - 1) (omega arith)))
