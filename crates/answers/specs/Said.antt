@@ -1,5 +1,6 @@
 -- The code's answers and refusals, in the rules' terms.
-use Rattle.std.specs.Prelude.{Result, Ok, Err}
+use Rattle.std.specs.Prelude.{⊤, Result, Ok, Err}
+use Rattle.std.proofs.Math.Option.{Option, none, some}
 use Rattle.rules.specs.Numbers as rules
 use Rattle.rules.specs.Numbers.{Said, yes_with, no_because, Lent, written}
 use Rattle.answers.specs.declared.Answer.{Answer}
@@ -37,6 +38,11 @@ because r.Fault = rules.FAULT
 abbrev pub said : Result Answer Refusal → Said
 said (Ok x) = yes_with (answered x)
 said (Err why) = no_because (because why)
+
+-- why something isn't done, if it isn't
+abbrev pub why_not : Result ⊤ Refusal → Option rules.Refusal
+why_not (Ok done) = none
+why_not (Err why) = some (because why)
 
 -- what was lent for the answer, after a call: an accepted call's words; as it was after a refused one
 abbrev pub told : Said → Lent → Lent

@@ -5,6 +5,9 @@ ghost use Rattle.std.specs.Prelude.{◌≡◌, T, IfOk};
 ghost use Rattle.rules.specs.Numbers.{reply, refusal_number, number_of, written, lends, well_lent};
 ghost use Rattle.answers.specs.Said.{answered, because, said, told};
 
+// What set-up returns where it has built a table.
+pub const BUILT: u32 = 0;
+
 // How many words are lent for the answer.
 pub const ANSWER_SIZE: usize = 3;
 

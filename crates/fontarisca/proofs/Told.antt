@@ -1,15 +1,13 @@
 -- What is told of a reply is what the call's definition says.
-use Rattle.std.proofs.Common.{ℕ, ◌≡◌, Bool, true, false, List, Result, Ok, Err, IfOk, T, ltb, refl, sym, ap, ◌∙◌}
-use Rattle.rules.specs.Numbers.{Answer, Said, yes_with, no_because, number_of, Lent, well_lent}
+use Rattle.std.proofs.Common.{ℕ, ◌≡◌, Bool, true, false, List, length, T, ltb, refl, sym, ap, ◌∙◌}
+use Rattle.rules.specs.Numbers.{Answer, Said, number_of, Lent, well_lent}
 use Rattle.rules.specs.State.{users}
 use Rattle.rules.specs.Rule.{Ran, accepted, refused, run}
 use Rattle.rules.specs.Packing.{view, k_of}
 use Rattle.rules.specs.Soundness.{sound}
 use Rattle.rules.specs.Calls.{Ask, rule_of, outcome_of, call}
 use Rattle.rules.specs.Claims.{gives, Meets}
-use Rattle.answers.specs.Said.{said, told}
-use Rattle.answers.specs.declared.Answer as code
-use Rattle.answers.specs.declared.Refusal as code
+use Rattle.answers.specs.Said.{told}
 use Rattle.parts.specs.Does.{Comes}
 use Rattle.parts.proofs.Card.{k_is}
 use Rattle.fontarisca.specs.First.{Replies}
@@ -19,7 +17,7 @@ told_outcome : (ran : Ran Answer) (t u : List ℕ) (answer : Lent) (x : Said) �
 told_outcome (accepted a s) t u answer x h = record { number = ap number_of h.0; answer = ap (λ (x : Said). told x answer) h.0; table = h.1 }
 told_outcome (refused why) t u answer x h = record { number = ap number_of h.0; answer = ap (λ (x : Said). told x answer) h.0; table = h.1 }
 
-module _ {t : List ℕ} {answer : Lent} {k : ℕ} {ask : Ask} {x : Said} {u : List ℕ} (replies : Replies t answer k ask x u) where
+module _ (t : List ℕ) (answer : Lent) (k : ℕ) (ask : Ask) (x : Said) (u : List ℕ) (replies : Replies t answer k ask x u) where
   pub told_call : Meets (call t answer k ask) (gives (number_of x) (told x answer) u)
   unfolding call
   told_call = by_tests (well_lent answer) (sound t) (ltb k (k_of t)) refl refl refl

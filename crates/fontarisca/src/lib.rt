@@ -5,8 +5,8 @@ ghost use Rattle.std.specs.Prelude.{◌≡◌};
 ghost use Rattle.rules.specs.Numbers.{lends};
 ghost use Rattle.rules.specs.Calls.{call, set_up_call, send_call, receive_call, choose_call, yield_call, end_call, step_call};
 ghost use Rattle.rules.specs.Claims.{gives, Meets, builds, MeetsBuilt};
-ghost use Rattle.answers.specs.Said.{said};
-ghost use Rattle.fontarisca.specs.First.{asks, first_refusal, passes, Replies};
+ghost use Rattle.answers.specs.Said.{said, why_not};
+ghost use Rattle.fontarisca.specs.First.{asks, first_refusal, Replies};
 
 use answers::{Refusal, Reply};
 use requests::Request;
@@ -23,7 +23,7 @@ pub enum Ask<'a> {
 // sound, there is no such core. The soundness check stands here and nowhere else; host/without-check leaves this function out.
 #[inline(never)]
 fn check_first(table: &[u32], answer: &[u32], core: u32) -> Result<(), Refusal>
-    ensures { passes result ≡ first_refusal table.now (lends answer.now) core }
+    ensures { why_not result ≡ first_refusal table.now (lends answer.now) core }
 {
     if !answers::lent_well(answer) {
         return Err(Refusal::Answer);
@@ -40,7 +40,7 @@ fn check_first(table: &[u32], answer: &[u32], core: u32) -> Result<(), Refusal>
 
 // The first refusals, then the rule of what is asked.
 fn reply_to(table: &mut [u32], answer: &[u32], core: u32, ask: Ask<'_>) -> Reply
-    ensures { Replies table.old (lends answer.now) core (asks ask) (said result) table.new }
+    ensures { Replies table.old (lends answer.now) core (asks ask.entry) (said result) table.new }
 {
     check_first(table, answer, core)?;
     let sizes = Sizes::read(table);
@@ -52,7 +52,7 @@ fn reply_to(table: &mut [u32], answer: &[u32], core: u32, ask: Ask<'_>) -> Reply
 
 // A call: what it comes to is told, and its number returned.
 fn call(table: &mut [u32], answer: &mut [u32], core: u32, ask: Ask<'_>) -> u32
-    ensures { Meets (call table.old (lends answer.old) core (asks ask)) (gives result (lends answer.new) table.new) }
+    ensures { Meets (call table.old (lends answer.old) core (asks ask.entry)) (gives result (lends answer.new) table.new) }
 {
     let reply = reply_to(table, answer, core, ask);
     answers::tell(answer, reply);
@@ -68,10 +68,10 @@ pub fn fontarisca_set_up(k: u32, n: u32, m: u32, pairs: &[u32], table: &mut [u32
         processes: n,
         channels: m,
     };
-    match set_up::build(sizes, pairs, table) {
-        Ok(()) => 0,
-        Err(why) => u32::from(why),
+    if let Err(why) = set_up::build(sizes, pairs, table) {
+        return u32::from(why);
     }
+    answers::BUILT
 }
 
 // The running process of the core sends the value on the channel, of which it is the writer.
@@ -84,7 +84,12 @@ pub fn fontarisca_send(
 ) -> u32
     ensures { Meets (send_call table.old (lends answer.old) core channel value) (gives result (lends answer.new) table.new) }
 {
-    call(table, answer, core, Ask::Request(Request::Send(channel, value)))
+    call(
+        table,
+        answer,
+        core,
+        Ask::Request(Request::Send(channel, value)),
+    )
 }
 
 // It receives on the channel, of which it is the reader.

@@ -1,18 +1,11 @@
 -- What set-up returns and writes, number by number.
-use Rattle.std.specs.Prelude.{⊤, Result, Ok, Err, ℕ, zero, suc, ◌+◌, ◌*◌, ◌-◌, ◌%◌, ◌≤◌, ◌<◌, ◌≡◌, List, length, get_or, set, replicate}
+use Rattle.std.specs.Prelude.{ℕ, zero, suc, ◌+◌, ◌*◌, ◌-◌, ◌%◌, ◌≤◌, ◌<◌, ◌≡◌, List, length, get_or, set, replicate}
 use Rattle.std.proofs.Math.Option.{Option, none, some}
 use Rattle.rules.specs.Numbers.{Refusal, no_because, number_of}
 use Rattle.rules.specs.Layout.{process_at, channel_at, room, header_cores, header_processes, header_channels, process_place, process_progress, channel_writer, channel_reader, place_queued, due_go}
-use Rattle.answers.specs.Said.{because}
-use Rattle.answers.specs.declared.Refusal as code
 use Rattle.packing.specs.Queues.{push_table}
 use Rattle.queues.specs.Fits.{CanPush, CanStore}
 use Rattle.queues.specs.RunQueue.{stored_table}
-
--- what a test found, in the rules' terms
-abbrev pub flaw : Result ⊤ code.Refusal → Option Refusal
-flaw (Ok done) = none
-flaw (Err why) = some (because why)
 
 -- the number of a refusal; 0 where there is none
 abbrev pub flaw_number : Option Refusal → ℕ

@@ -6,8 +6,9 @@ ghost use Rattle.rules.specs.SetUp.{ends_of, proper_pairs, set_up_refusal, set_u
 ghost use Rattle.rules.specs.Layout.{header_size, channels_at, room};
 ghost use Rattle.rules.specs.Packing.{pack};
 ghost use Rattle.rules.specs.Calls.{set_up_call};
+ghost use Rattle.answers.specs.Said.{why_not};
 ghost use Rattle.table.specs.Has.{HasProcess, HasChannel};
-ghost use Rattle.set_up.specs.Filled.{flaw, flaw_number, in_turn, header_filled, process_filled, channel_filled, alone, in_batches, CanStandAlone, Ready};
+ghost use Rattle.set_up.specs.Filled.{flaw_number, in_turn, header_filled, process_filled, channel_filled, alone, in_batches, CanStandAlone, Ready};
 
 use answers::Refusal;
 use layout::Place;
@@ -16,7 +17,7 @@ use table::{Channel, Core, Process, Record, Sizes, within};
 
 // NAME where the writer or the reader is none of the n processes, before SELF where both are one.
 fn check_pair(n: u32, writer: u32, reader: u32) -> Result<(), Refusal>
-    ensures { flaw result ≡ proper_pairs n (record { writer = writer; reader = reader } ∷ []) }
+    ensures { why_not result ≡ proper_pairs n (record { writer = writer; reader = reader } ∷ []) }
 {
     if !(within(1, n, writer) && within(1, n, reader)) {
         return Err(Refusal::Name);
@@ -29,7 +30,7 @@ fn check_pair(n: u32, writer: u32, reader: u32) -> Result<(), Refusal>
 
 // What is wrong with the first bad pair.
 fn check_pairs(n: u32, pairs: &[u32]) -> Result<(), Refusal>
-    ensures { flaw result ≡ proper_pairs n (ends_of pairs.now) }
+    ensures { why_not result ≡ proper_pairs n (ends_of pairs.now) }
 {
     for pair in pairs.chunks_exact(2) {
         check_pair(n, pair[0], pair[1])?;
@@ -39,7 +40,7 @@ fn check_pairs(n: u32, pairs: &[u32]) -> Result<(), Refusal>
 
 // Why set-up is refused, for a table of `size` words.
 fn check(sizes: Sizes, pairs: &[u32], size: usize) -> Result<(), Refusal>
-    ensures { flaw result ≡ set_up_refusal sizes.cores sizes.processes sizes.channels pairs.now size }
+    ensures { why_not result ≡ set_up_refusal sizes.cores sizes.processes sizes.channels pairs.now size }
 {
     if !sizes.are_allowed() {
         return Err(Refusal::Size);
@@ -148,7 +149,7 @@ fn fill(sizes: Sizes, pairs: &[u32], t: &mut [u32])
 // Set-up: the table built; or why it is refused, and nothing written.
 #[tactic(auto, unfolding(rules::specs::Calls::set_up_call))]
 pub fn build(sizes: Sizes, pairs: &[u32], t: &mut [u32]) -> Result<(), Refusal>
-    ensures number { flaw_number (flaw result) ≡ (set_up_call sizes.cores sizes.processes sizes.channels pairs.now t.old).number }
+    ensures number { flaw_number (why_not result) ≡ (set_up_call sizes.cores sizes.processes sizes.channels pairs.now t.old).number }
     ensures table { t.new ≡ (set_up_call sizes.cores sizes.processes sizes.channels pairs.now t.old).table }
 {
     check(sizes, pairs, t.len())?;
