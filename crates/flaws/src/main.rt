@@ -6,112 +6,118 @@
 // A name in brackets is a heading, written as it stands.
 #![tactic(auto)]
 
-fn write_spread(t: &mut [u32], first_address: u32, stride: u32, count: u32, first: u32, step: u32) {
-    let mut address = first_address;
-    let mut v = first;
-    let mut left = count;
-    while left > 0 {
-        script::put(t, address, v);
-        address = std::num::wrapping_add_u32(address, stride);
-        v = std::num::wrapping_add_u32(v, step);
-        left -= 1;
+use script::Span;
+use std::alloc::Global;
+use std::io;
+use std::io::Write;
+
+// What an entry asks for; what stands after its name goes with it.
+#[derive(Clone, Copy, Debug)]
+enum Entry<'a> {
+    Heading(&'a [u8]),
+    Table(&'a [u8]),
+    Length(&'a [u8]),
+    Spread(&'a [u8]),
+    Verdict { name: &'a [u8], words: &'a [u8] },
+}
+
+impl<'a> Entry<'a> {
+    // None where it is a comment, or has no name.
+    fn parse(entry: &'a [u8]) -> Option<Entry<'a>> {
+        match entry {
+            [b'[', ..] => return Some(Entry::Heading(entry)),
+            [b'#', ..] => return None,
+            _ => {}
+        }
+        let end = script::find(entry, b':', b':')?;
+        let name = &entry[..end];
+        let words = &entry[end + 1..];
+        Some(match name {
+            b"table" => Entry::Table(words),
+            b"length" => Entry::Length(words),
+            b"spread" => Entry::Spread(words),
+            _ => Entry::Verdict { name, words },
+        })
     }
 }
 
-// How many records there are from one to another.
-fn count(from: u32, last: u32) -> u32 {
-    if last < from {
-        return 0;
-    }
-    std::num::wrapping_add_u32(last - from, 1)
+// The table that the next entries begin with, and how many of its words are lent.
+#[derive(Drop)]
+struct Trial {
+    alloc: Global,
+    table: Vec<u32>,
+    lent: usize,
 }
 
-// Its numbers are the two records, the first value and the step; the word is found in a copy, into which they are written too.
-fn spread(s: &[u8], t: &mut [u32]) {
-    let mut n = [0u32; 4];
-    script::numbers(s, &mut n);
-    let mut copy = script::zeros();
-    script::copy(t, &mut copy);
-    let cursor = script::words(s, &mut copy);
-    write_spread(
-        t,
-        cursor.first,
-        cursor.stride,
-        count(n[0], n[1]),
-        n[2],
-        n[3],
-    );
-}
+impl Trial {
+    fn perform<W: Write>(&mut self, out: &mut W, entry: Entry<'_>) -> io::Result<()> {
+        match entry {
+            Entry::Heading(heading) => {
+                out.write_all(heading)?;
+                writeln!(out)
+            }
+            Entry::Table(words) => self.begin(out, words),
+            Entry::Length(sizes) => {
+                self.lent = script::length(self.alloc, sizes)?;
+                Ok(())
+            }
+            Entry::Spread(words) => self.spread(out, words),
+            Entry::Verdict { name, words } => self.judge(out, name, words),
+        }
+    }
 
-fn is_sound(table: &[u32], length: usize, words: &[u8]) -> bool {
-    let mut t = script::zeros();
-    script::copy(table, &mut t);
-    script::words(words, &mut t);
-    soundness::sound(script::part(&t, 0, length))
-}
+    fn begin<W: Write>(&mut self, out: &mut W, words: &[u8]) -> io::Result<()> {
+        self.table = script::zeros(self.alloc)?;
+        script::words(out, words, &mut self.table)?;
+        self.lent = script::table_length(&self.table);
+        Ok(())
+    }
 
-fn write_verdict(name: &[u8], sound: bool) {
-    io::write_all(1, name);
-    if sound {
-        io::write_all(1, b": sound\n");
-    } else {
-        io::write_all(1, b": unsound\n");
+    // The entry's numbers are the two records, the first value and the step; the word is found in a copy, into which they are written too.
+    fn spread<W: Write>(&mut self, out: &mut W, words: &[u8]) -> io::Result<()> {
+        let numbers = script::numbers(self.alloc, words)?;
+        let mut copy = self.table.clone()?;
+        let span = script::words(out, words, &mut copy)?;
+        write_spread(&mut self.table, span, &numbers);
+        Ok(())
     }
-}
 
-// Begins a table, and returns its length.
-fn begin(s: &[u8], table: &mut [u32]) -> usize {
-    let zeros = script::zeros();
-    script::copy(&zeros, table);
-    script::words(s, table);
-    script::table_length(table)
-}
-
-// Does one entry, what stands after its name, and returns the length that the table has then.
-fn perform(name: &[u8], s: &[u8], table: &mut [u32], length: usize) -> usize {
-    if check::same(name, b"table") {
-        return begin(s, table);
-    }
-    if check::same(name, b"length") {
-        return script::length(s);
-    }
-    if check::same(name, b"spread") {
-        spread(s, table);
-        return length;
-    }
-    write_verdict(name, is_sound(table, length, s));
-    length
-}
-
-fn entry(s: &[u8], table: &mut [u32], length: usize) -> usize {
-    if script::begins(s, b"[") {
-        io::write_all(1, s);
-        io::write_all(1, b"\n");
-        return length;
-    }
-    if script::begins(s, b"#") {
-        return length;
-    }
-    let name = script::find(s, 0, b':', b':');
-    if name < s.len() {
-        return perform(&s[..name], &s[name + 1..], table, length);
-    }
-    length
-}
-
-fn run(text: &[u8]) {
-    let mut table = script::zeros();
-    let mut size = 0;
-    let mut at = 0;
-    while at < text.len() {
-        let end = script::find(text, at, b'\n', b' ');
-        size = entry(&text[at..end], &mut table, size);
-        at = end + 1;
+    fn judge<W: Write>(&self, out: &mut W, name: &[u8], words: &[u8]) -> io::Result<()> {
+        let mut table = self.table.clone()?;
+        script::words(out, words, &mut table)?;
+        let sound = soundness::sound(script::lent(&table, self.lent));
+        out.write_all(name)?;
+        writeln!(out, ": {}", if sound { "sound" } else { "unsound" })
     }
 }
 
-fn main() {
-    let mut text = io::large_buffer();
-    let size = io::read_full(0, &mut text);
-    run(&text[..size]);
+// Writes a value into the named word of each record from one to another.
+fn write_spread(table: &mut [u32], span: Span, numbers: &[u32]) {
+    let from = script::word(numbers, 0);
+    let to = script::word(numbers, 1);
+    let records = to.checked_sub(from).map_or(0, |more| more.wrapping_add(1));
+    let mut address = span.first;
+    let mut value = script::word(numbers, 2);
+    for _ in 0..records {
+        script::put(table, address, value);
+        address = address.wrapping_add(span.stride);
+        value = value.wrapping_add(script::word(numbers, 3));
+    }
+}
+
+fn try_tables<W: Write>(alloc: Global, text: &[u8], out: &mut W) -> io::Result<()> {
+    let mut trial = Trial {
+        alloc,
+        table: script::zeros(alloc)?,
+        lent: 0,
+    };
+    for entry in script::entries(text).filter_map(Entry::parse) {
+        trial.perform(out, entry)?;
+    }
+    Ok(())
+}
+
+fn main(rt: HostRuntime) -> io::Result<()> {
+    let text = script::read(rt.alloc(), rt.reader())?;
+    try_tables(rt.alloc(), &text, &mut io::writer(&rt))
 }

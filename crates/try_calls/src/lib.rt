@@ -12,7 +12,60 @@
 //     step CORE
 //     write WORDS                            writes words of the table by hand (crates/script says how they are named)
 //     show WORD, show WORD to WORD           shows words of the table
+// An entry that begins with none of these names ends a process.
 #![tactic(auto)]
+
+ghost use Rattle.std.specs.Prelude.{◌≡◌, drop};
+ghost use Rattle.try_calls.specs.Made.{IsMade};
+
+use std::alloc::{AllocError, Global};
+use std::io;
+use std::io::{Read, Write};
+
+// What an entry asks for.
+#[derive(Clone, Copy, Debug, PartialEq, Eq)]
+enum Order {
+    Heading,
+    Length,
+    Answers,
+    Write,
+    Show,
+    Call(Call),
+}
+
+#[derive(Clone, Copy, Debug, PartialEq, Eq)]
+enum Call {
+    SetUp,
+    Send,
+    Receive,
+    Choose,
+    Yield,
+    End,
+    Step,
+}
+
+impl Order {
+    // What an entry asks for by the name that it begins with.
+    fn of(entry: &[u8]) -> Order {
+        let named = [
+            ("case", Order::Heading),
+            ("length", Order::Length),
+            ("answers", Order::Answers),
+            ("write", Order::Write),
+            ("show", Order::Show),
+            ("set-up", Order::Call(Call::SetUp)),
+            ("send", Order::Call(Call::Send)),
+            ("receive", Order::Call(Call::Receive)),
+            ("choose", Order::Call(Call::Choose)),
+            ("yield", Order::Call(Call::Yield)),
+            ("step", Order::Call(Call::Step)),
+        ];
+        named
+            .iter()
+            .find(|(name, _)| entry.starts_with(name.as_bytes()))
+            .map_or(Order::Call(Call::End), |(_, order)| *order)
+    }
+}
 
 // How many words are lent.
 #[derive(Clone, Copy)]
@@ -21,173 +74,128 @@ struct Lent {
     answer: usize,
 }
 
-fn write_number(n: u32) {
-    io::write_all(1, b" ");
-    io::print_decimal(1, n as u64);
+// The numbers from the n-th on.
+fn from(numbers: &[u32], n: usize) -> &[u32]
+    ensures { result.now ≡ drop n numbers.now }
+{
+    numbers.get(n..).unwrap_or(&[])
 }
 
-fn write_words(words: &[u32]) {
-    let mut i = 0;
-    while i < words.len() {
-        write_number(words[i]);
-        i += 1;
+// Makes a call with its numbers, of which each that is missing is 0.
+fn make(call: Call, numbers: &[u32], table: &mut [u32], answer: &mut [u32]) -> u32
+    ensures { IsMade call numbers.now (record { table = table.old; answer = answer.old }) result
+        (record { table = table.new; answer = answer.new }) }
+{
+    let first = script::word(numbers, 0);
+    let second = script::word(numbers, 1);
+    let third = script::word(numbers, 2);
+    match call {
+        Call::SetUp => {
+            fontarisca::fontarisca_set_up(first, second, third, from(numbers, 3), table)
+        }
+        Call::Send => fontarisca::fontarisca_send(table, answer, first, second, third),
+        Call::Receive => fontarisca::fontarisca_receive(table, answer, first, second),
+        Call::Choose => fontarisca::fontarisca_choose(table, answer, first, from(numbers, 1)),
+        Call::Yield => fontarisca::fontarisca_yield(table, answer, first),
+        Call::End => fontarisca::fontarisca_end(table, answer, first),
+        Call::Step => fontarisca::fontarisca_step(table, answer, first),
     }
 }
 
-// The request that an entry asks for; `words` holds its `count` numbers.
-fn request(
-    s: &[u8],
-    words: &[u32; 16384],
-    count: usize,
-    table: &mut [u32],
-    answer: &mut [u32],
-) -> u32 {
-    let core = words[0];
-    if script::begins(s, b"send") {
-        return fontarisca::fontarisca_send(table, answer, core, words[1], words[2]);
+// What no call writes into the answer words.
+const NO_ANSWER: [u32; 4] = [99; 4];
+
+fn write_words<W: Write>(out: &mut W, words: &[u32]) -> io::Result<()> {
+    for word in words {
+        write!(out, " {word}")?;
     }
-    if script::begins(s, b"receive") {
-        return fontarisca::fontarisca_receive(table, answer, core, words[1]);
-    }
-    if script::begins(s, b"choose") {
-        return fontarisca::fontarisca_choose(table, answer, core, script::part(words, 1, count));
-    }
-    if script::begins(s, b"yield") {
-        return fontarisca::fontarisca_yield(table, answer, core);
-    }
-    fontarisca::fontarisca_end(table, answer, core)
+    Ok(())
 }
 
-// The call that it asks for.
-fn call(
-    s: &[u8],
-    words: &[u32; 16384],
-    count: usize,
-    table: &mut [u32],
-    answer: &mut [u32],
-) -> u32 {
-    if script::begins(s, b"set-up") {
-        let pairs = script::part(words, 3, count);
-        return fontarisca::fontarisca_set_up(words[0], words[1], words[2], pairs, table);
-    }
-    if script::begins(s, b"step") {
-        return fontarisca::fontarisca_step(table, answer, words[0]);
-    }
-    request(s, words, count, table, answer)
-}
-
-// Lends what the entries before have said.
-fn lend(
-    s: &[u8],
-    words: &[u32; 16384],
-    count: usize,
-    table: &mut [u32],
-    answer: &mut [u32],
+// The table that the calls are made on, and what of it is lent.
+#[derive(Drop)]
+struct Bench {
+    alloc: Global,
+    table: Vec<u32>,
     lent: Lent,
-) -> u32 {
-    let size = script::within(table, lent.table);
-    let answer_size = script::within(answer, lent.answer);
-    call(
-        s,
-        words,
-        count,
-        &mut table[..size],
-        &mut answer[..answer_size],
-    )
 }
 
-// The answer words where they were written, and whether the table is as it was.
-fn write_change(answered: bool, unchanged: bool, answer: &[u32]) {
-    if answered {
-        write_words(answer);
+impl Bench {
+    fn new(alloc: Global) -> Result<Bench, AllocError> {
+        Ok(Bench {
+            alloc,
+            table: script::zeros(alloc)?,
+            lent: Lent {
+                table: 0,
+                answer: answers::ANSWER_SIZE,
+            },
+        })
     }
-    if unchanged {
-        io::write_all(1, b" unchanged");
-    }
-}
 
-fn try_call(s: &[u8], words: &[u32; 16384], count: usize, table: &mut [u32], lent: Lent) {
-    let mut answer = [99u32; 4];
-    let mut before = script::zeros();
-    script::copy(table, &mut before);
-    let number = lend(s, words, count, table, &mut answer, lent);
-    io::write_all(1, b":");
-    write_number(number);
-    let answered = !script::same(&answer, &[99, 99, 99, 99]);
-    write_change(
-        answered,
-        script::same(table, &before),
-        script::part(&answer, 0, answers::ANSWER_SIZE),
-    );
-}
+    // The call's number, the answer words where they were written, and whether the table is as it was.
+    fn try_call<W: Write>(&mut self, out: &mut W, call: Call, numbers: &[u32]) -> io::Result<()> {
+        let before = self.table.clone()?;
+        let mut answer = NO_ANSWER;
+        let table_size = self.lent.table.min(self.table.len());
+        let answer_size = self.lent.answer.min(answer.len());
+        let number = make(
+            call,
+            numbers,
+            &mut self.table[..table_size],
+            &mut answer[..answer_size],
+        );
+        write!(out, ": {number}")?;
+        if answer != NO_ANSWER {
+            write_words(out, script::lent(&answer, answers::ANSWER_SIZE))?;
+        }
+        if self.table == before {
+            write!(out, " unchanged")?;
+        }
+        Ok(())
+    }
 
-fn show(s: &[u8], table: &mut [u32]) {
-    let cursor = script::words(s, table);
-    let last = script::wide(cursor.at);
-    io::write_all(1, b":");
-    write_words(script::part(table, script::wide(cursor.first), last + 1));
-}
+    fn show<W: Write>(&mut self, out: &mut W, words: &[u8]) -> io::Result<()> {
+        let span = script::words(out, words, &mut self.table)?;
+        let end = (span.at as usize + 1).min(self.table.len());
+        write!(out, ":")?;
+        write_words(out, self.table.get(span.first as usize..end).unwrap_or(&[]))
+    }
 
-// Does what an entry asks for, and says what is lent then.
-fn perform(s: &[u8], table: &mut [u32], lent: Lent) -> Lent {
-    let mut words = script::zeros();
-    let count = script::numbers(s, &mut words);
-    let name = script::find(s, 0, b' ', b' ');
-    if script::begins(s, b"case") {
-        return lent;
-    }
-    if script::begins(s, b"length") {
-        return Lent {
-            table: script::length(s),
-            answer: lent.answer,
-        };
-    }
-    if script::begins(s, b"answers") {
-        return Lent {
-            table: lent.table,
-            answer: script::wide(words[0]),
-        };
-    }
-    if script::begins(s, b"write") {
-        script::words(&s[name..], table);
-        return lent;
-    }
-    if script::begins(s, b"show") {
-        show(&s[name..], table);
-        return lent;
-    }
-    try_call(s, &words, count, table, lent);
-    lent
-}
-
-fn entry(s: &[u8], table: &mut [u32], lent: Lent) -> Lent {
-    if script::begins(s, b"#") | (s.len() == 0) {
-        return lent;
-    }
-    let line = script::find(s, 0, b'\n', b'\n');
-    io::write_all(1, &s[..line]);
-    let next = perform(s, table, lent);
-    io::write_all(1, b"\n");
-    next
-}
-
-fn entries(text: &[u8]) {
-    let mut table = script::zeros();
-    let mut lent = Lent {
-        table: 0,
-        answer: answers::ANSWER_SIZE,
-    };
-    let mut at = 0;
-    while at < text.len() {
-        let end = script::find(text, at, b'\n', b' ');
-        lent = entry(&text[at..end], &mut table, lent);
-        at = end + 1;
+    // Does what an entry asks for. The words that it names stand after the first blank that no blank follows.
+    fn perform<W: Write>(&mut self, out: &mut W, entry: &[u8]) -> io::Result<()> {
+        let numbers = script::numbers(self.alloc, entry)?;
+        let words = &entry[script::find(entry, b' ', b' ').unwrap_or(entry.len())..];
+        match Order::of(entry) {
+            Order::Heading => {}
+            Order::Length => self.lent.table = script::length(self.alloc, entry)?,
+            Order::Answers => self.lent.answer = script::word(&numbers, 0) as usize,
+            Order::Write => {
+                script::words(out, words, &mut self.table)?;
+            }
+            Order::Show => self.show(out, words)?,
+            Order::Call(call) => self.try_call(out, call, &numbers)?,
+        }
+        Ok(())
     }
 }
 
-// Does the entries of the standard input.
-pub fn run() {
-    let mut text = io::large_buffer();
-    let size = io::read_full(0, &mut text);
-    entries(&text[..size]);
+// Writes the first line of an entry, and what it gave.
+fn try_entry<W: Write>(bench: &mut Bench, out: &mut W, entry: &[u8]) -> io::Result<()> {
+    if entry.is_empty() || entry.starts_with(b"#") {
+        return Ok(());
+    }
+    let line = entry.split(|b| *b == b'\n').next().unwrap_or(entry);
+    out.write_all(line)?;
+    bench.perform(out, entry)?;
+    writeln!(out)
+}
+
+// Does the entries of the input.
+pub fn run<R: Read + Drop, W: Write>(alloc: Global, input: R, out: &mut W) -> io::Result<()> {
+    let text = script::read(alloc, input)?;
+    let mut bench = Bench::new(alloc)?;
+    for entry in script::entries(&text) {
+        try_entry(&mut bench, out, entry)?;
+    }
+    Ok(())
 }
