@@ -11,18 +11,18 @@
 // A text is bytes, as it is written out: a name need not be UTF-8.
 #![tactic(auto)]
 
+ghost use Rattle.std.specs.Prelude.{◌≡◌, IfOk, replicate, slice_index, slice_set, take};
+
 mod kind;
 mod list;
 mod number;
 mod text;
 
-ghost use Rattle.std.specs.Prelude.{◌≡◌, IfOk, OnSome, length, replicate, slice_index, slice_set, slice_range, min, take};
-
 pub use kind::table_length;
 pub use list::{Span, words};
 pub use number::{length, numbers};
 use std::alloc::{AllocError, Global};
-pub use text::{Parts, entries, find, read};
+pub use text::{Parts, TEXT_SIZE, entries, find, read};
 
 // How many words a table has that is tried, however few of them are lent.
 pub const WORDS: usize = 16384;
@@ -69,11 +69,21 @@ mod tests {
         let mut out = Vec::new(rt.alloc());
         let list = b"header cores 1 2, process 2 first-guard 7 8 # 9\n core 0 mark 3, core x";
         let span = words(&mut out, list, &mut table)?;
-        assert_eq!(rt; word(&table, 8 + 16 + 24 + 12), 7);
-        assert_eq!(rt; word(&table, 8 + 16 + 24 + 13), 8);
-        assert_eq!(rt; word(&table, 8 + 7), 3);
+        for (at, value) in [(0, 1), (1, 2), (60, 7), (61, 8), (15, 3), (16383, 0)] {
+            assert_eq!(rt; word(&table, at), value, "at {at}");
+        }
         assert_eq!(rt; span.stride, 16);
         assert_eq!(rt; out.as_slice(), b"unknown: x".as_slice());
+        Ok(())
+    }
+
+    #[test]
+    fn numbers_are_read(rt: HostRuntime) -> Result<(), Fail> {
+        let text = read(rt.alloc(), b"1 2 1 -3 # 4\n4294967299".as_slice())?;
+        let read = numbers(rt.alloc(), &text)?;
+        assert_eq!(rt; read.as_slice(), [1, 2, 1, 3, 3].as_slice());
+        assert_eq!(rt; length(rt.alloc(), &text)?, 8 + 16 + 48 + 4 - 3);
+        assert_eq!(rt; length(rt.alloc(), b"none")?, 0);
         Ok(())
     }
 }

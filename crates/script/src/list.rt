@@ -54,17 +54,12 @@ struct List<'a, W> {
 impl<W: Write> List<'_, W> {
     // A number: a value, or the record's; the first number after the end of a record says nothing.
     fn number(&mut self, n: u32) {
-        match self.place {
+        let place = self.place;
+        match place {
             Place::Ended => self.place = Place::Values,
-            Place::Record(
-                Record {
-                    kind,
-                    start: None,
-                    first,
-                },
-            ) => {
-                let start = Some(address(kind.start(self.table, n)));
-                self.place = Place::Record(Record { kind, start, first });
+            Place::Record(record) if record.start.is_none() => {
+                let start = Some(address(record.kind.start(self.table, n)));
+                self.place = Place::Record(Record { start, ..record });
             }
             _ => {
                 put(self.table, self.span.at, n);
@@ -76,7 +71,7 @@ impl<W: Write> List<'_, W> {
     // The name of a kind of record. The header is the one of its kind, and begins at the first word.
     fn record(&mut self, kind: Option<Kind>) {
         self.place = kind.map_or(Place::Ended, |kind| {
-            let start = if kind == Kind::Header { Some(0) } else { None };
+            let start = (kind == Kind::Header).then_some(0);
             Place::Record(Record {
                 kind,
                 start,

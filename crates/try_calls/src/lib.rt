@@ -199,3 +199,19 @@ pub fn run<R: Read + Drop, W: Write>(alloc: Global, input: R, out: &mut W) -> io
     }
     Ok(())
 }
+
+#[cfg(test)]
+mod tests {
+    use super::*;
+    use std::test::Fail;
+
+    #[test]
+    fn a_table_is_built(rt: HostRuntime) -> Result<(), Fail> {
+        let mut out = Vec::new(rt.alloc());
+        let text = b"length 1 2 1\nset-up 1 2 1 1 2\nstep 0\nshow core 0 runs";
+        run(rt.alloc(), text.as_slice(), &mut out)?;
+        let given = b"length 1 2 1\nset-up 1 2 1 1 2: 0\nstep 0: 2 0 0 0\nshow core 0 runs: 0\n";
+        assert_eq!(rt; out.as_slice(), given.as_slice());
+        Ok(())
+    }
+}

@@ -1,4 +1,4 @@
-use Rattle.std.proofs.Common.{rules, ◌≡◌, refl, ◌%◌, ◌^◌, ◌==◌, not, length}
+use Rattle.std.proofs.Common.{rules, refl, ◌%◌, ◌^◌, ◌==◌, not, length}
 use Rattle.std.specs.Char.{is_ascii_digit}
 use Rattle.std.specs.List.{slice_split}
 use Rattle.std.proofs.lemmas.Iterator.{items_from_collect, YieldsList-from_take, YieldsList-from_map}

@@ -1,4 +1,4 @@
-use Rattle.std.proofs.Common.{rules, ◌≡◌, IfSome, take}
+use Rattle.std.proofs.Common.{rules}
 use Rattle.script.specs.declared.text.TheConstants.{TEXT_SIZE}
 use Rattle.script.proofs.Taken.{taken}
 use Rattle.script.proofs.text.read.Goals as goal
