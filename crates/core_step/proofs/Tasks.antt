@@ -2,13 +2,13 @@
 use Prim.Native.Nat.{ℕ, ◌≤◌, ◌<◌}
 use mathlib.Core.Path.{◌≡◌, refl, sym, ap, ◌∙◌, subst}
 use mathlib.Core.Bool.{false}
-use Rattle.std.specs.Prelude.{Result, Ok, Err}
+use Rattle.std.specs.Prelude.{Result, Ok}
 use mathlib.Core.List.{List, [], ◌∷◌}
 use native.Mathlib.Omega.{arith}
 use lib.Dec.{eqb, lit<, lit≤}
 use lib.ListN.{length, get_or}
 use borrow.Author.Tests.{ne_eqb}
-use Rattle.rules.specs.Numbers.{Said, Answer, MOVED, yes_with, no_because}
+use Rattle.rules.specs.Numbers.{Said, Answer, MOVED, yes_with}
 use Rattle.rules.specs.State.{Task, no_task, trigger, wake_up, Work, runs, free}
 use Rattle.rules.specs.Items.{core_of}
 use Rattle.rules.specs.Rule.{Ran, run, done, ◌>>◌}
@@ -18,7 +18,6 @@ use Rattle.rules.specs.CoreStep.{work_step, step}
 use Rattle.rules.specs.Layout.{core_at, core_runs, core_task, core_task_process, task_none, task_trigger, task_wake}
 use Rattle.rules.specs.Packing.{view, work_words, work_numbered, word_of_core}
 use Rattle.rules.proofs.Tests.{within_means}
-use Rattle.answers.specs.Said.{because}
 use Rattle.answers.specs.declared.Refusal.{Refusal}
 use Rattle.table.specs.Has.{HasCore}
 use Rattle.parts.specs.Does.{Card, Comes, Does}
@@ -27,7 +26,7 @@ use Rattle.parts.proofs.Card.{card_core, card_process, card_inside, processes_ar
 use Rattle.parts.proofs.Seen.{work_seen}
 use Rattle.parts.proofs.Packs.{card_packs, core_read, task_written}
 use Rattle.steps.specs.Wakes.{CanWake, Wakes}
-use Rattle.steps.proofs.Waking.{GoesOn, woken, not_woken}
+use Rattle.steps.proofs.Waking.{GoesOn, woken}
 use Rattle.scheduler.specs.Free.{Free}
 use Rattle.core_step.specs.Running.{Running, Idle, HasTask}
 
@@ -93,11 +92,7 @@ module _ {t : List ℕ} {cores processes k q : ℕ} (pre : Free t cores processe
       record { card = pre.card; from_one = is.0; inside = subst (λ (n : ℕ). q ≤ n) (sym (processes_are t cores processes k pre.card)) is.1 }
 
   module _ {woke : Result (Unit {0}) Refusal} {u : List ℕ} (wakes : Wakes t k q woke u) where
-    -- it wasn't asleep
-    pub task_faults : {why : Refusal} → woke ≡ Err why → {r : Said} → r ≡ no_because (because why) → Does (step k) t r u
-    task_faults was {r} told = does_work t k _ pre.work r u (not_woken can_wake wakes was (has_task k no_task >> done MOVED) told)
-
-    -- it was, and the task is over
+    -- it was asleep, and the task is over
     pub task_over : woke ≡ Ok tt → {r : Said} {v : List ℕ} → v ≡ task_table u k task_none 0 → r ≡ yes_with MOVED → Does (step k) t r v
     task_over was {r} {v} written said =
         does_work t k _ pre.work r v

@@ -1,6 +1,6 @@
 -- To wake a process: what the code of it comes to, and what a rule that begins with it comes to then.
 use Rattle.std.proofs.Common.{◌≡◌, ℕ, ◌≤◌, List, get_or, Result, Ok, Err, set, sym, refl, ap, ◌∙◌, subst, arith, lit<}
-use Rattle.rules.specs.Numbers.{Said, Answer, no_because}
+use Rattle.rules.specs.Numbers.{Answer}
 use Rattle.rules.specs.State.{Place, running, queued, asleep, ended, State, wiring}
 use Rattle.rules.specs.Items.{process_of, get, put}
 use Rattle.rules.specs.Layout.{process_at, process_place, place_queued, place_asleep}
@@ -10,10 +10,8 @@ use Rattle.rules.specs.Steps.{must_sleep, joins, wakes}
 use Rattle.rules.proofs.Laws.Frame.{HasWiring, run_wiring}
 use Rattle.packing.specs.Queues.{push_table}
 use Rattle.table.specs.Has.{HasProcess}
-use Rattle.answers.specs.Said.{because}
 use Rattle.answers.specs.declared.Refusal.{Refusal}
 use Rattle.answers.specs.declared.Refusal.TheVariants.{Fault}
-use Rattle.parts.specs.Does.{Comes}
 use Rattle.parts.proofs.Card.{facts, processes_are, card_process, card_inside, card_order}
 use Rattle.parts.proofs.Packs.{Packs, IsProcess, card_packs, process_read}
 use Rattle.queues.specs.Fits.{CanJoin}
@@ -103,15 +101,3 @@ module _ {t u : List ℕ} {cores processes k q : ℕ} {r : Woke} (can : CanWake 
             rest_runs = runs;
           }
       go (refused why) w same runs = absurd (let z : ◌≡◌ {A = ℕ} 0 1 = cc in omega arith)
-
-  -- it wasn't
-  pub not_woken : {why : Refusal} → r ≡ Err why → (rest : Rule Answer) {reply : Said} → reply ≡ no_because (because why)
-      → Comes (run (wakes k q >> rest) (view t)) t reply u
-  not_woken {why} was rest {reply} told =
-      subst (λ (x : Ran Answer). Comes x t reply u) (sym (run_then (wakes k q) rest (view t))) (go (run (wakes k q) (view t)) woke.by_rule)
-    where
-      go : (x : Ran (Unit {0})) → Woken x t r u → Comes (then x rest) t reply u
-      go (accepted x s) w = absurd (let z : ◌≡◌ {A = ℕ} 0 1 = cc in omega arith)
-      go (refused it) w =
-          let fault : why ≡ Fault = cc in
-          (told ∙ ap (λ (x : Refusal). no_because (because x)) fault ∙ ap no_because (sym w.1.0), w.1.1)
