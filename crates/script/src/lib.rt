@@ -13,6 +13,8 @@
 
 ghost use Rattle.std.specs.Prelude.{◌≡◌, IfOk, replicate, slice_index, slice_set, take};
 
+use std::alloc::{AllocError, Global};
+
 mod kind;
 mod list;
 mod number;
@@ -21,7 +23,6 @@ mod text;
 pub use kind::table_length;
 pub use list::{Span, words};
 pub use number::{length, numbers};
-use std::alloc::{AllocError, Global};
 pub use text::{Parts, TEXT_SIZE, entries, find, read};
 
 // How many words a table has that is tried, however few of them are lent.
