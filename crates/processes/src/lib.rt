@@ -3,26 +3,29 @@
 
 ghost use Rattle.std.specs.Prelude.{◌≡◌};
 ghost use Rattle.rules.specs.Layout.{process_at, process_next, links_size};
+ghost use Rattle.layout.specs.Numbers.{number_of};
 ghost use Rattle.table.specs.Has.{HasProcess, IsProcessOf};
 ghost use Rattle.fitting.specs.Twin.{zeros, place_fits, meeting_fits, flags_fit, process_fits};
 
 use layout::Place;
-use layout::progress::{Choice, Exchange};
+use layout::progress::Progress;
 use records::zeros;
 use table::{Process, Record, within};
 
 mod progress; // its progress
 
+use progress::progress_fits;
+
 // A running process has nothing in hand or a stage; a queued or sleeping one a stage or an outcome; an ended one nothing.
-fn place_fits(place: u32, n: u32) -> bool
-    ensures { result ≡ place_fits place n }
+fn place_fits(place: u32, progress: Progress) -> bool
+    ensures { result ≡ place_fits place (number_of progress) }
 {
-    if place == Place::Running as u32 {
-        n <= Choice::Finish as u32
-    } else if place == Place::Ended as u32 {
-        n == 0
-    } else {
-        within(Place::Queued as u32, Place::Asleep as u32, place) & (Exchange::Look as u32 <= n)
+    match progress {
+        Progress::Nothing => (place == Place::Running as u32) | (place == Place::Ended as u32),
+        Progress::Due(_) => within(Place::Queued as u32, Place::Asleep as u32, place),
+        Progress::Exchanging(..) | Progress::Choosing(_) => {
+            within(Place::Running as u32, Place::Asleep as u32, place)
+        }
     }
 }
 
@@ -65,13 +68,20 @@ fn flags_fit(t: &[u32], p: Process) -> bool
 }
 
 // Process p, of which m was met.
+#[tactic(auto, using(crate::proofs::ByNumber::by_number))]
 pub fn process_fits(t: &[u32], p: Process, m: u32) -> bool
     requires { IsProcessOf t.now p }
     ensures { result ≡ process_fits t.now p.sizes.cores p.sizes.processes p.sizes.channels p.number m }
 {
     let place = p.word(t, layout::PROCESS_PLACE);
-    flags_fit(t, p)
-        && place_fits(place, p.word(t, layout::PROCESS_PROGRESS))
-        && meeting_fits(t, p, place, m)
-        && progress::progress_fits(t, p)
+    if !flags_fit(t, p) {
+        return false;
+    }
+    if !meeting_fits(t, p, place, m) {
+        return false;
+    }
+    let Ok(progress) = Progress::try_from(p.word(t, layout::PROCESS_PROGRESS)) else {
+        return false;
+    };
+    place_fits(place, progress) && progress_fits(t, p, progress)
 }
