@@ -2,9 +2,10 @@
 use Rattle.std.proofs.Common.{ℕ, ◌≡◌, refl, Bool, true, false, ◌&&◌, List, arith}
 use Rattle.std.specs.Prelude.{if◌then◌else◌}
 use Rattle.std.proofs.lemmas.Bool.Decides.{nat_tests}
+use Rattle.std.proofs.Math.Bool.{and-false}
 use lib.Dec.{eqb, leb}
-use Rattle.rules.specs.Layout.{process_at, process_progress, process_channel, process_partner, process_guards, process_index, process_first_ready, process_first_guard, guard_places, due_chose}
-use Rattle.fitting.specs.Twin.{word, zeros, is_sender, is_receiver, has_partner, has_guards, has_index, has_ready, channel_part, partner_part, guards_stand, index_part, ready_part, progress_fits}
+use Rattle.rules.specs.Layout.{process_at, process_place, process_progress, process_channel, process_partner, process_guards, process_index, process_first_ready, process_first_guard, guard_places, due_chose}
+use Rattle.fitting.specs.Twin.{word, zeros, is_sender, is_receiver, has_partner, has_guards, has_index, has_ready, channel_part, partner_part, guards_stand, index_part, ready_part, progress_fits, meeting_fits, process_fits}
 use Rattle.processes.specs.Parts.{choice_fits, exchange_fits, numbered_fits}
 
 -- what a number with guards is besides, and what one without is not
@@ -50,3 +51,7 @@ module _ (t : List ℕ) (K N M p : ℕ) where
 
   pub by_number : numbered_fits t K N M p (w process_progress) ≡ progress_fits t K N M p
   by_number = by (w process_progress) (has_guards (w process_progress)) refl
+
+  -- a meeting that doesn't fit decides, whatever else is tested
+  pub unfit_meeting : (m : ℕ) → meeting_fits t K p (w process_place) m ≡ false → process_fits t K N M p m ≡ false
+  unfit_meeting m e = rw (e, and-false)

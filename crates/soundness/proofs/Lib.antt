@@ -1,3 +1,4 @@
+pub mod Numbers
 mod Sizes
 mod Unmet
 mod Walks

@@ -11,6 +11,7 @@ mod queues; // where a core's queues begin and end
 mod rest; // the processes and the channels
 
 use meetings::{enter_core, mark_head, meet};
+use processes::Met;
 use queues::{first_of, next_head, queue_ends};
 use records::header::header_fits;
 use rest::rest_fits;
@@ -28,7 +29,7 @@ fn parts_fit(t: &[u32], sizes: Sizes) -> bool
     requires { (IsOfSizes t.now sizes) × (1 ≤ sizes.processes) × (sizes.processes ≤ 256) × (sizes.channels ≤ 256) }
     ensures { result ≡ parts_fit t.now sizes.cores sizes.processes sizes.channels }
 {
-    let mut met = [0u32; 257];
+    let mut met = [Met::Unmet; 257];
     'check: {
         'cores: for k in 0..sizes.cores {
             let core = Core(k);
@@ -41,7 +42,7 @@ fn parts_fit(t: &[u32], sizes: Sizes) -> bool
                 let mut last = 0;
                 let mut size = 0;
                 while p != 0 {
-                    if !meet(&mut met, sizes.processes, p, 2) {
+                    if !meet(&mut met, sizes.processes, p, Met::Queued) {
                         break 'check;
                     }
                     last = p;

@@ -1,15 +1,16 @@
 // What is left to check once all queues were walked: the processes, each against what was met of it, and the channels.
 ghost use Rattle.std.specs.Prelude.{◌≡◌, ◌≤◌};
 ghost use Rattle.table.specs.Has.{IsOfSizes};
+ghost use Rattle.processes.specs.Met.{met_numbers};
 ghost use Rattle.fitting.specs.Twin.{well, processes_fit, channels_fit, rest_fits};
 
-use processes::process_fits;
+use processes::{Met, process_fits};
 use records::channels::channel_fits;
 use table::{Channel, Process, Sizes};
 
-fn processes_fit(t: &[u32], sizes: Sizes, met: &[u32; 257]) -> bool
+fn processes_fit(t: &[u32], sizes: Sizes, met: &[Met; 257]) -> bool
     requires { (IsOfSizes t.now sizes) × (sizes.processes ≤ 256) }
-    ensures { result ≡ processes_fit t.now sizes.cores sizes.processes sizes.channels met.now 1 sizes.processes }
+    ensures { result ≡ processes_fit t.now sizes.cores sizes.processes sizes.channels (met_numbers met.now) 1 sizes.processes }
 {
     for number in 1..=sizes.processes {
         if !process_fits(t, Process { sizes, number }, met[number as usize]) {
@@ -31,9 +32,9 @@ fn channels_fit(t: &[u32], sizes: Sizes) -> bool
     true
 }
 
-pub fn rest_fits(t: &[u32], sizes: Sizes, met: &[u32; 257]) -> bool
+pub fn rest_fits(t: &[u32], sizes: Sizes, met: &[Met; 257]) -> bool
     requires { (IsOfSizes t.now sizes) × (sizes.processes ≤ 256) × (sizes.channels ≤ 256) }
-    ensures { result ≡ rest_fits t.now sizes.cores sizes.processes sizes.channels (well met.now) }
+    ensures { result ≡ rest_fits t.now sizes.cores sizes.processes sizes.channels (well (met_numbers met.now)) }
 {
     processes_fit(t, sizes, met) && channels_fit(t, sizes)
 }
