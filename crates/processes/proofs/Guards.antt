@@ -6,7 +6,7 @@ use native.Mathlib.Numerals.{add-one}
 use lib.Dec.{eqb}
 use Rattle.rules.specs.Layout.{channel_reader}
 use Rattle.fitting.specs.Twin.{word, end_fits, stands_among, guards_fit}
-use Rattle.records.proofs.Runs.{goes_on, stops}
+use Rattle.processes.proofs.Runs.{goes_on, stops}
 
 stands : (t : List ℕ) (x n a : ℕ) → a + n ≤ length t → list_any (λ y. eqb y x) (take n (drop a t)) ≡ stands_among t x a n
 stands t x zero a fits = refl

@@ -1,2 +1,3 @@
-mod ByNumber
+pub mod Runs
+pub mod ByNumber
 mod Guards

@@ -1,3 +1,1 @@
-pub mod Tests
-pub mod Runs
-pub mod AllZero
+mod AllZero

@@ -28,16 +28,16 @@ use Rattle.fitting.specs.Twin.{
   rest_fits,
 }
 use Rattle.soundness.specs.Parts.{first_of, ends_at, stand_at, next_head, next_fits, queue_ends, marked, outcome, core_enters, parts_fit}
-use Rattle.records.proofs.Tests.{decide, first_true, second_true, and_true, outside}
+use Rattle.std.proofs.lemmas.Bool.{cases_Bool, and_parts, and_right}
 use Rattle.soundness.proofs.Unmet.{unmet, unmet_le, unmet_marked}
 use Rattle.soundness.proofs.Walks.{no_flaw, chain_end, chain_stale, chain_step, batch_end, batch_out, batch_step}
 
 module _ (met : List ℕ) (queue N : ℕ) where
   pub marked_long : length (marked met queue) ≡ length met
-  marked_long = ⊎_elim (λ e. rw e) (λ e. rw e (length-set met queue 3)) (decide (eqb queue 0))
+  marked_long = ⊎_elim (λ e. rw e) (λ e. rw e (length-set met queue 3)) (cases_Bool (eqb queue 0))
 
   pub marked_unmet : queue < length met → unmet N (marked met queue) ≤ unmet N met
-  marked_unmet inside = ⊎_elim (λ e. rw e (omega arith)) (λ e. rw e (unmet_marked met queue 3 inside refl N)) (decide (eqb queue 0))
+  marked_unmet inside = ⊎_elim (λ e. rw e (omega arith)) (λ e. rw e (unmet_marked met queue 3 inside refl N)) (cases_Bool (eqb queue 0))
 
 either : (b : Bool) (w v : Walk) (after : List ℕ) → (if b then w else v) ≡ well after → (w ≡ well after) ⊎ (v ≡ well after)
 either true w v after e = inl e
@@ -70,7 +70,7 @@ queue_falls t k queue next p p₀ size before now after some e first q l m =
     let head : first_of t k queue ≡ queue = rw batch in
     let one : size ≡ 0 → ⊥ = λ z. eqb-false queue 0 batch (sym head ∙ sym q ∙ sym (first z) ∙ e) in
     omega arith)
-    (decide (eqb queue 0))
+    (cases_Bool (eqb queue 0))
 
 module _ (t : List ℕ) (K N M : ℕ) where
   -- from core k on
@@ -90,7 +90,6 @@ module _ (t : List ℕ) (K N M : ℕ) where
 
   -- The loops' invariants: before core k; before a queue of core k; before process p of a queue that began with p₀ and met₀.
   pub record AtCore (k : ℕ) (met : List ℕ) : Type 0 where
-    pub in_range : k ≤ K
     pub long : length met ≡ 257
     pub left : parts_fit t K N M ≡ cores_left k met
 
@@ -124,7 +123,7 @@ module _ (t : List ℕ) (K N M : ℕ) where
         and_then (chain_walk t K N (core_at k core_last) N met (word t (core_at k core_first)) 0 0) (λ met. batch_walk t K N k N met (word t (core_at k core_first_head)) 0)
 
     core_by_parts : (met : List ℕ) → core_walk t K N k met ≡ and_then (core_enters t N k met) core_queues
-    core_by_parts met = ⊎_elim (λ e. rw e) (λ e. rw e) (decide (core_fits t N k))
+    core_by_parts met = ⊎_elim (λ e. rw e) (λ e. rw e) (cases_Bool (core_fits t N k))
 
     enters : (met : List ℕ) (w : Walk) → k < K → w ≡ core_enters t N k met → cores_left k met ≡ after_core k (and_then w core_queues)
     enters met w h e = one_core met h ∙ ap (after_core k) (core_by_parts met) ∙ ap (λ w. after_core k (and_then w core_queues)) (sym e)
@@ -164,8 +163,8 @@ module _ (t : List ℕ) (K N M : ℕ) where
         ap (after_core k) (batch_end t K N k N met head prev none) ∙ ap (λ b. after_core k (outcome b met)) other)
         (λ some.
         let out : leb head N ≡ false = rw some at fits in
-        ap (after_core k) (batch_out t K N k N met head prev some (outside 1 N head out)))
-        (decide (eqb head 0))
+        ap (after_core k) (batch_out t K N k N met head prev some (and_right (leb 1 head) _ out)))
+        (cases_Bool (eqb head 0))
 
     module _ (met : List ℕ) (queue p last size : ℕ) where
       pub met_next : N < length met → (p ≡ 0 → ⊥) → fresh N met p ≡ true
@@ -185,10 +184,10 @@ module _ (t : List ℕ) (K N M : ℕ) where
       ends_well : p ≡ 0 → queue_ends t K N k queue last size ≡ true
           → queue_left k met queue p last size ≡ after_core k (batch_walk t K N k N (marked met queue) (next_head t K k queue) queue)
       ends_well e ends =
-          at_end e ∙ ap (λ b. after_queue k queue (outcome b met)) (first_true (stand_at t (ends_at K k queue) last size) _ ends)
+          at_end e ∙ ap (λ b. after_queue k queue (outcome b met)) (and_parts (stand_at t (ends_at K k queue) last size) _ ends).0
 
       next_well : queue_ends t K N k queue last size ≡ true → next_fits t N k queue (next_head t K k queue) ≡ true
-      next_well ends = second_true (stand_at t (ends_at K k queue) last size) _ ends
+      next_well ends = (and_parts (stand_at t (ends_at K k queue) last size) _ ends).1
 
       pub next_inside : queue_ends t K N k queue last size ≡ true → (next_head t K k queue ≡ 0 → ⊥) → next_head t K k queue ≤ N
       next_inside ends some = leb-true _ N (followed (next_head t K k queue) queue some (next_well ends))
@@ -210,6 +209,6 @@ module _ (t : List ℕ) (K N M : ℕ) where
           (λ s.
           at_end e
           ∙ ap (λ b. after_queue k queue (outcome b met)) s
-          ∙ batches_flaw (marked met queue) (next_head t K k queue) queue (sym (and_true (stand_at t (ends_at K k queue) last size) _ s) ∙ ends))
+          ∙ batches_flaw (marked met queue) (next_head t K k queue) queue (rw s at ends))
           (λ s. at_end e ∙ ap (λ b. after_queue k queue (outcome b met)) s)
-          (decide (stand_at t (ends_at K k queue) last size))
+          (cases_Bool (stand_at t (ends_at K k queue) last size))

@@ -10,7 +10,7 @@ use lib.ListN.{length, get_or, set}
 use lib.Seq.{get_or-set_same, get_or-set_other}
 use borrow.Author.Tests.{eqb-true, eqb-false}
 use Rattle.rules.specs.Lists.{bit}
-use Rattle.records.proofs.Tests.{decide}
+use Rattle.std.proofs.lemmas.Bool.{cases_Bool}
 
 -- whether p was not met, as a number
 abbrev pub one : List ℕ → ℕ → ℕ
@@ -54,7 +54,7 @@ module _ (met : List ℕ) (p v : ℕ) (inside : p < length met) (mark : eqb v 0 
       ⊎_elim
       (λ e. let q = eqb-true p (suc n) e in omega (arith, here (suc n) q, above met p v n (omega arith)))
       (λ e. omega (arith, elsewhere met p v (suc n) (λ q. eqb-false p (suc n) e (sym q)), unmet_marked n))
-      (decide (eqb p (suc n)))
+      (cases_Bool (eqb p (suc n)))
 
   -- and meeting one makes one less
   pub unmet_met : (n : ℕ) → 1 ≤ p → p ≤ n → get_or met p 0 ≡ 0 → unmet n (set met p v) < unmet n met
@@ -68,4 +68,4 @@ module _ (met : List ℕ) (p v : ℕ) (inside : p < length met) (mark : eqb v 0 
       (λ d.
       let other : (suc n ≡ p → ⊥) = λ q. eqb-false p (suc n) d (sym q) in
       omega (arith, elsewhere met p v (suc n) other, unmet_met n l (omega arith) e))
-      (decide (eqb p (suc n)))
+      (cases_Bool (eqb p (suc n)))

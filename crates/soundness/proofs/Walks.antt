@@ -5,14 +5,14 @@ use mathlib.Core.Bool.{Bool, true, false}
 use mathlib.Core.List.{List}
 use mathlib.Core.Logic.{⊎_elim}
 use native.Mathlib.Omega.{arith}
-use lib.Dec.{eqb}
+use lib.Dec.{eqb, leb}
 use lib.ListN.{length, set, length-set}
 use borrow.Author.Tests.{eqb-true}
 use Rattle.rules.specs.Lists.{within}
 use Rattle.rules.specs.Layout.{core_at, process_at, room, core_last_head, process_next, process_last, process_next_head}
 use Rattle.fitting.specs.Twin.{word, fresh, Walk, flaw, well, and_then, chain_walk, batch_walk}
 use Rattle.soundness.specs.Parts.{stand_at, outcome}
-use Rattle.records.proofs.Tests.{decide, first_true, second_true, within_true}
+use Rattle.std.proofs.lemmas.Bool.{cases_Bool, and_parts, leb-true}
 use Rattle.soundness.proofs.Unmet.{unmet, unmet_marked, unmet_met}
 
 pub then_same : (w : Walk) (f g : List ℕ → Walk) → ((met : List ℕ) → w ≡ well met → f met ≡ g met) → and_then w f ≡ and_then w g
@@ -36,11 +36,15 @@ kept_all : (N : ℕ) (met after : List ℕ) → met ≡ after → Kept N met aft
 kept_all N met after e = record { long = ap length (sym e); fewer = omega (arith, ap (unmet N) e) }
 
 module _ (t : List ℕ) (K N : ℕ) where
+  within_true : (p : ℕ) → within 1 N p ≡ true → (1 ≤ p) × (p ≤ N)
+  within_true p e = let parts = and_parts (leb 1 p) _ e in (leb-true 1 p parts.0, leb-true p N parts.1)
+
   -- who is met anew is one less to meet
   pub met_anew : (met : List ℕ) (p v : ℕ) → N < length met → eqb v 0 ≡ false → fresh N met p ≡ true → unmet N (set met p v) < unmet N met
   met_anew met p v room mark e =
-      let w = within_true 1 N p (first_true (within 1 N p) _ e) in
-      unmet_met met p v (omega arith) mark N w.0 w.1 (eqb-true _ _ (second_true (within 1 N p) _ e))
+      let new = and_parts (within 1 N p) _ e in
+      let inside = within_true p new.0 in
+      unmet_met met p v (omega arith) mark N inside.0 inside.1 (eqb-true _ _ new.1)
 
   -- the chains whose last process and size stand at the word a
   module _ (a : ℕ) where
@@ -66,8 +70,8 @@ module _ (t : List ℕ) (K N : ℕ) where
     chain_same n m met p last size anew =
         ⊎_elim
         (λ e. chain_end n met p last size e ∙ sym (chain_end m met p last size e))
-        (λ e. ⊎_elim (anew e) (λ f. chain_stale n met p last size e f ∙ sym (chain_stale m met p last size e f)) (decide (fresh N met p)))
-        (decide (eqb p 0))
+        (λ e. ⊎_elim (anew e) (λ f. chain_stale n met p last size e f ∙ sym (chain_stale m met p last size e f)) (cases_Bool (fresh N met p)))
+        (cases_Bool (eqb p 0))
 
     -- one more step to take changes nothing where there are enough
     chain_more : (n : ℕ) (met : List ℕ) (p last size : ℕ) → N < length met → unmet N met ≤ n
@@ -92,7 +96,7 @@ module _ (t : List ℕ) (K N : ℕ) where
 
     chain_kept : (n : ℕ) (met : List ℕ) (p last size : ℕ) (after : List ℕ) → N < length met → chain n met p last size ≡ well after → Kept N met after
     chain_kept zero met p last size after room w =
-        ⊎_elim (at_end 0 met p last size after w) (λ e. absurd (no_flaw after (rw e at w))) (decide (eqb p 0))
+        ⊎_elim (at_end 0 met p last size after w) (λ e. absurd (no_flaw after (rw e at w))) (cases_Bool (eqb p 0))
     chain_kept (suc n) met p last size after room w =
         ⊎_elim
         (at_end (suc n) met p last size after w)
@@ -102,8 +106,8 @@ module _ (t : List ℕ) (K N : ℕ) where
         chain_kept n (set met p 2) (word t (process_at K p process_next)) p (size + 1) after (simp length-set room) (sym (chain_meets n met p last size e f) ∙ w) in
         record { long = rest.long ∙ length-set met p 2; fewer = omega (arith, met_anew met p 2 room refl f) })
         (λ f. absurd (no_flaw after (sym (chain_stale (suc n) met p last size e f) ∙ w)))
-        (decide (fresh N met p)))
-        (decide (eqb p 0))
+        (cases_Bool (fresh N met p)))
+        (cases_Bool (eqb p 0))
 
     -- a chain with a first process meets somebody
     chain_less : (n : ℕ) (met : List ℕ) (p last size : ℕ) (after : List ℕ) → N < length met → fresh N met p ≡ true → eqb p 0 ≡ false
@@ -145,7 +149,7 @@ module _ (t : List ℕ) (K N : ℕ) where
         ⊎_elim
         (λ i. batch_walks n met head prev e i ∙ stale_then n met head e f)
         (λ o. batch_out (suc n) met head prev e o)
-        (decide (within 1 N head))
+        (cases_Bool (within 1 N head))
 
     batch_same : (n m : ℕ) (met : List ℕ) (head prev : ℕ)
         → (eqb head 0 ≡ false → fresh N met head ≡ true → batches n met head prev ≡ batches m met head prev)
@@ -153,8 +157,8 @@ module _ (t : List ℕ) (K N : ℕ) where
     batch_same n m met head prev anew =
         ⊎_elim
         (λ e. batch_end n met head prev e ∙ sym (batch_end m met head prev e))
-        (λ e. ⊎_elim (anew e) (λ f. batch_stale n met head prev e f ∙ sym (batch_stale m met head prev e f)) (decide (fresh N met head)))
-        (decide (eqb head 0))
+        (λ e. ⊎_elim (anew e) (λ f. batch_stale n met head prev e f ∙ sym (batch_stale m met head prev e f)) (cases_Bool (fresh N met head)))
+        (cases_Bool (eqb head 0))
 
     -- after a batch there are fewer to meet
     after_batch : (met : List ℕ) (head : ℕ) (after : List ℕ) → N < length met → eqb head 0 ≡ false → fresh N met head ≡ true
@@ -162,7 +166,7 @@ module _ (t : List ℕ) (K N : ℕ) where
         → (N < length (set after head 3)) × (unmet N (set after head 3) < unmet N met)
     after_batch met head after room e f w =
         let less = chain_less (process_at K head process_last) N met head 0 0 after room f e w in
-        let inside = within_true 1 N head (first_true (within 1 N head) _ f) in
+        let inside = within_true head (and_parts (within 1 N head) _ f).0 in
         let marked = unmet_marked after head 3 (omega arith) refl N in
         (simp length-set (omega arith), omega arith)
 
@@ -172,7 +176,7 @@ module _ (t : List ℕ) (K N : ℕ) where
     batch_more (suc n) met head prev room l =
         batch_same (suc n) (suc (suc n)) met head prev
         (λ e f.
-        let i = first_true (within 1 N head) _ f in
+        let i = (and_parts (within 1 N head) _ f).0 in
         batch_walks n met head prev e i
         ∙ then_same _ _ _ (λ after w. let a = after_batch met head after room e f w in batch_more n (set after head 3) _ head a.0 (omega arith))
         ∙ sym (batch_walks (suc n) met head prev e i))
@@ -183,10 +187,10 @@ module _ (t : List ℕ) (K N : ℕ) where
         ⊎_elim
         (λ f. absurd (omega (arith, met_anew met head 2 room refl f)))
         (λ f. batch_stale 0 met head prev e f ∙ sym (stale_then 0 met head e f))
-        (decide (fresh N met head))
+        (cases_Bool (fresh N met head))
     batch_step (suc n) met head prev room l e i =
         ⊎_elim
         (λ f. batch_walks n met head prev e i
         ∙ then_same _ _ _ (λ after w. let a = after_batch met head after room e f w in batch_more n (set after head 3) _ head a.0 (omega arith)))
         (λ f. batch_stale (suc n) met head prev e f ∙ sym (stale_then (suc n) met head e f))
-        (decide (fresh N met head))
+        (cases_Bool (fresh N met head))

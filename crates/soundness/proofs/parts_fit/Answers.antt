@@ -1,7 +1,6 @@
 use Rattle.std.proofs.Common.{ℕ, Bool, List, ◌≡◌, refl, sym, ◌∙◌, true, arith, set, length-set, if◌then◌else◌}
 use Rattle.fitting.specs.Twin.{fresh}
 use Rattle.soundness.specs.Parts.{next_head}
-use Rattle.records.proofs.Tests.{answered}
 use Rattle.soundness.proofs.Outcomes.{all_well, not_well}
 use Rattle.soundness.proofs.Unmet.{unmet_le}
 use Rattle.soundness.proofs.Walks.{met_anew}
@@ -15,7 +14,7 @@ meets_one : (r : Bool) (N p : ℕ) (met after : List ℕ) → r ≡ fresh N met 
 meets_one r N p met after first e met_it = (sym first ∙ met_it, rw met_it at e)
 
 pub cores-init : goal.cores-init
-cores-init c = record { in_range = omega arith; long = refl; left = no_core_met _ _ _ _ }
+cores-init c = record { long = refl; left = no_core_met _ _ _ _ }
 
 pub returns : goal.returns
 returns c =
@@ -75,7 +74,7 @@ queues-preserved c =
     let queue = c.queues.queue in
     let some : next_head a.t.now a.sizes.cores k queue ≡ 0 → ⊥ = λ z. c.if-queue-eq0.false (c.next_head-queue.ensures ∙ z) in
     let ends =
-    answered _ _ _ c.queue_ends.ensures c.if-not-queue_ends.false in
+    sym c.queue_ends.ensures ∙ c.if-not-queue_ends.false in
     rw (c.mark_head.ensures, c.next_head-queue.ensures)
     (record {
       in_range = next_inside a.t.now a.sizes.cores a.sizes.processes a.sizes.channels k (met_numbers l.met) queue l.p l.last l.size ends some;
@@ -89,11 +88,10 @@ cores-preserved c =
     let l = c.loop-p in
     let a = c.args in
     let ends =
-    answered _ _ _ c.queue_ends.ensures c.if-not-queue_ends.false in
+    sym c.queue_ends.ensures ∙ c.if-not-queue_ends.false in
     let none = sym c.next_head-queue.ensures ∙ c.if-queue-eq0.true in
     rw c.mark_head.ensures
     (record {
-      in_range = omega arith;
       long = marked_long (met_numbers l.met) c.queues.queue a.sizes.processes ∙ l.invariant.long;
       left = l.invariant.left
           ∙ last_queue _ _ _ _ _ (met_numbers l.met) _ l.p l.last l.size c.loop-p-test.false ends none;
@@ -109,11 +107,11 @@ returns-then-not-enter_core c =
 pub returns-then-not-meet : goal.returns-then-not-meet
 returns-then-not-meet c =
     let l = c.loop-p in
-    let stale = answered _ _ _ c.meet.ensures.first c.if-not-meet.true in
+    let stale = sym c.meet.ensures.first ∙ c.if-not-meet.true in
     sym (l.invariant.left ∙ met_before _ _ _ _ _ (met_numbers l.met) _ l.p l.last l.size c.loop-p-test.true stale)
 
 pub returns-then-not-queue_ends : goal.returns-then-not-queue_ends
 returns-then-not-queue_ends c =
     let l = c.loop-p in
-    let flawed = answered _ _ _ c.queue_ends.ensures c.if-not-queue_ends.true in
+    let flawed = sym c.queue_ends.ensures ∙ c.if-not-queue_ends.true in
     sym (l.invariant.left ∙ ends_badly _ _ _ _ _ (met_numbers l.met) _ l.p l.last l.size c.loop-p-test.false flawed)

@@ -1,6 +1,6 @@
 use Rattle.std.proofs.Common.{◌<◌, ◌+◌, sym, ◌∙◌, arith}
 use Rattle.fitting.specs.Twin as twin
-use Rattle.records.proofs.Runs.{goes_on}
+use Rattle.processes.proofs.Runs.{goes_on}
 use Rattle.soundness.proofs.rest.channels_fit.Goals as goal
 
 pub loop-number-preserved : goal.loop-number-preserved

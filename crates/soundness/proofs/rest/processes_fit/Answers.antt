@@ -1,6 +1,6 @@
 use Rattle.std.proofs.Common.{◌<◌, ◌+◌, sym, ◌∙◌, arith}
 use Rattle.fitting.specs.Twin as twin
-use Rattle.records.proofs.Runs.{goes_on, over, stops}
+use Rattle.processes.proofs.Runs.{goes_on, over, stops}
 use Rattle.processes.specs.Met.{met_numbers}
 use Rattle.soundness.proofs.Numbers.{by_number}
 use Rattle.soundness.proofs.rest.processes_fit.Goals as goal

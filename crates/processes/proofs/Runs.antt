@@ -9,9 +9,6 @@ module _ (f : ℕ → ℕ → Bool) (a end : ℕ) where
   one_more : a < end → end - a ≡ suc (end - (a + 1))
   one_more h = omega arith
 
-  pub begins : (n : ℕ) → a + n ≡ end → f a n ≡ f a (end - a)
-  begins n e = let left : n ≡ end - a = omega arith in ap (f a) left
-
   -- the place a lets the rest decide
   pub goes_on : a < end → f a (suc (end - (a + 1))) ≡ f (suc a) (end - (a + 1)) → f a (end - a) ≡ f (a + 1) (end - (a + 1))
   goes_on h step = ap (f a) (one_more h) ∙ step ∙ ap (λ i. f i (end - (a + 1))) (sym (add-one a))
