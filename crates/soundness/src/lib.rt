@@ -12,7 +12,7 @@ mod rest; // the processes and the channels
 
 use meetings::{enter_core, mark_head, meet};
 use processes::Met;
-use queues::{first_of, next_head, queue_ends};
+use queues::Queue;
 use records::header::header_fits;
 use rest::rest_fits;
 use table::{Core, Process, Record, Sizes};
@@ -36,9 +36,10 @@ fn parts_fit(t: &[u32], sizes: Sizes) -> bool
             if !enter_core(t, sizes.processes, core, &mut met) {
                 break 'check;
             }
-            let mut queue = 0;
+            let mut head = 0;
             'queues: loop {
-                let mut p = first_of(t, core, queue);
+                let queue = Queue { sizes, core, head };
+                let mut p = queue.first(t);
                 let mut last = 0;
                 let mut size = 0;
                 while p != 0 {
@@ -49,12 +50,12 @@ fn parts_fit(t: &[u32], sizes: Sizes) -> bool
                     size += 1;
                     p = Process { sizes, number: p }.word(t, layout::PROCESS_NEXT);
                 }
-                if !queue_ends(t, sizes, core, queue, last, size) {
+                if !queue.ends(t, last, size) {
                     break 'check;
                 }
-                mark_head(&mut met, queue);
-                queue = next_head(t, sizes, core, queue);
-                if queue == 0 {
+                mark_head(&mut met, head);
+                head = queue.next_head(t);
+                if head == 0 {
                     break 'queues;
                 }
             }

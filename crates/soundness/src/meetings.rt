@@ -44,11 +44,11 @@ pub fn enter_core(t: &[u32], processes: u32, core: Core, met: &mut [Met; 257]) -
 
 // The head of a batch that was met is marked; the active queue has none.
 #[tactic(auto, using(crate::proofs::Numbers::numbers_set))]
-pub fn mark_head(met: &mut [Met; 257], queue: u32)
-    requires { queue ≤ 256 }
-    ensures { met_numbers met.new ≡ marked (met_numbers met.old) queue }
+pub fn mark_head(met: &mut [Met; 257], head: u32)
+    requires { head ≤ 256 }
+    ensures { met_numbers met.new ≡ marked (met_numbers met.old) head }
 {
-    if queue != 0 {
-        met[queue as usize] = Met::Head;
+    if head != 0 {
+        met[head as usize] = Met::Head;
     }
 }

@@ -1,4 +1,4 @@
-// Where the queues of a core begin and end: the active queue goes by the name 0, a batch by its head.
+// Where the queues of a core begin and end.
 ghost use Rattle.std.specs.Prelude.{◌≡◌, ◌+◌, ◌<◌, ◌≤◌, length};
 ghost use Rattle.rules.specs.Layout.{process_at, process_stride};
 ghost use Rattle.table.specs.Has.{HasCore};
@@ -6,15 +6,75 @@ ghost use Rattle.soundness.specs.Parts.{first_of, stand_at, next_head, next_fits
 
 use table::{Core, Process, Record, Sizes};
 
-// The first process of a queue: of a batch it is the head.
-pub fn first_of(t: &[u32], core: Core, queue: u32) -> u32
-    requires { HasCore t.now core.0 }
-    ensures { result ≡ first_of t.now core.0 queue }
-{
-    if queue == 0 {
-        core.word(t, layout::CORE_FIRST)
-    } else {
-        queue
+// A queue of a core: the active one has the head 0, a batch goes by its head.
+#[derive(Clone, Copy, Debug, PartialEq, Eq)]
+pub struct Queue {
+    pub sizes: Sizes,
+    pub core: Core,
+    pub head: u32,
+}
+
+impl Queue {
+    // The head's record, of a batch.
+    fn record(self) -> Process
+        ensures sizes { result.sizes ≡ self.sizes }
+        ensures number { result.number ≡ self.head }
+    {
+        Process {
+            sizes: self.sizes,
+            number: self.head,
+        }
+    }
+
+    // Its first process: of a batch it is the head.
+    pub fn first(self, t: &[u32]) -> u32
+        requires { HasCore t.now self.core.0 }
+        ensures { result ≡ first_of t.now self.core.0 self.head }
+    {
+        if self.head == 0 {
+            self.core.word(t, layout::CORE_FIRST)
+        } else {
+            self.head
+        }
+    }
+
+    // The head of the batch that follows it.
+    pub fn next_head(self, t: &[u32]) -> u32
+        requires core { HasCore t.now self.core.0 }
+        requires head { process_at self.sizes.cores self.head process_stride ≤ length t.now }
+        ensures { result ≡ next_head t.now self.sizes.cores self.core.0 self.head }
+    {
+        if self.head == 0 {
+            self.core.word(t, layout::CORE_FIRST_HEAD)
+        } else {
+            self.record().word(t, layout::PROCESS_NEXT_HEAD)
+        }
+    }
+
+    // What follows it: another batch, or nothing, and then the core's last head is this one.
+    fn next_fits(self, t: &[u32], next: u32) -> bool
+        requires { HasCore t.now self.core.0 }
+        ensures { result ≡ next_fits t.now self.sizes.processes self.core.0 self.head next }
+    {
+        if next == 0 {
+            self.core.word(t, layout::CORE_LAST_HEAD) == self.head
+        } else {
+            next <= self.sizes.processes
+        }
+    }
+
+    // Its last process and its size stand where they are kept, and what follows fits.
+    pub fn ends(self, t: &[u32], last: u32, size: u32) -> bool
+        requires core { HasCore t.now self.core.0 }
+        requires head { process_at self.sizes.cores self.head process_stride ≤ length t.now }
+        ensures { result ≡ queue_ends t.now self.sizes.cores self.sizes.processes self.core.0 self.head last size }
+    {
+        let follows = self.next_fits(t, self.next_head(t));
+        if self.head == 0 {
+            stand_at(t, self.core.at(t, layout::CORE_LAST), last, size) & follows
+        } else {
+            stand_at(t, self.record().at(t, layout::PROCESS_LAST), last, size) & follows
+        }
     }
 }
 
@@ -24,52 +84,4 @@ fn stand_at(t: &[u32], at: usize, last: u32, size: u32) -> bool
     ensures { result ≡ stand_at t.now at last size }
 {
     (t[at] == last) & (t[at + 1] == size)
-}
-
-// The head of the batch that follows a queue.
-pub fn next_head(t: &[u32], sizes: Sizes, core: Core, queue: u32) -> u32
-    requires core { HasCore t.now core.0 }
-    requires queue { process_at sizes.cores queue process_stride ≤ length t.now }
-    ensures { result ≡ next_head t.now sizes.cores core.0 queue }
-{
-    if queue == 0 {
-        core.word(t, layout::CORE_FIRST_HEAD)
-    } else {
-        let head = Process {
-            sizes,
-            number: queue,
-        };
-        head.word(t, layout::PROCESS_NEXT_HEAD)
-    }
-}
-
-// What follows a queue: another batch, or nothing, and then the core's last head is this one.
-fn next_fits(t: &[u32], processes: u32, core: Core, queue: u32, next: u32) -> bool
-    requires { HasCore t.now core.0 }
-    ensures { result ≡ next_fits t.now processes core.0 queue next }
-{
-    if next == 0 {
-        core.word(t, layout::CORE_LAST_HEAD) == queue
-    } else {
-        next <= processes
-    }
-}
-
-// A queue's last process and its size stand where they are kept, and what follows fits.
-pub fn queue_ends(t: &[u32], sizes: Sizes, core: Core, queue: u32, last: u32, size: u32) -> bool
-    requires core { HasCore t.now core.0 }
-    requires queue { process_at sizes.cores queue process_stride ≤ length t.now }
-    ensures { result ≡ queue_ends t.now sizes.cores sizes.processes core.0 queue last size }
-{
-    let next = next_head(t, sizes, core, queue);
-    let follows = next_fits(t, sizes.processes, core, queue, next);
-    if queue == 0 {
-        stand_at(t, core.at(t, layout::CORE_LAST), last, size) & follows
-    } else {
-        let head = Process {
-            sizes,
-            number: queue,
-        };
-        stand_at(t, head.at(t, layout::PROCESS_LAST), last, size) & follows
-    }
 }

@@ -60,10 +60,10 @@ loop-p-preserved c =
 pub queues-smaller : goal.queues-smaller
 queues-smaller c =
     let a = c.args in
-    let fewer = marked_unmet (met_numbers c.loop-p.met) c.queues.queue a.sizes.processes (omega arith) in
+    let fewer = marked_unmet (met_numbers c.loop-p.met) c.queues.head a.sizes.processes (omega arith) in
     let falls =
-    queue_falls a.t.now _ c.queues.queue _ c.loop-p.p _ c.loop-p.size _ _ _ c.if-queue-eq0.false c.loop-p-test.false
-    c.loop-p.invariant.first c.first_of-p.ensures c.loop-p.invariant.counted fewer in
+    queue_falls a.t.now _ c.queues.head _ c.loop-p.p _ c.loop-p.size _ _ _ c.if-head-eq0.false c.loop-p-test.false
+    c.loop-p.invariant.first c.first-p.ensures c.loop-p.invariant.counted fewer in
     rw c.mark_head.ensures falls
 
 pub queues-preserved : goal.queues-preserved
@@ -71,11 +71,11 @@ queues-preserved c =
     let l = c.loop-p in
     let a = c.args in
     let k = c.cores.k in
-    let queue = c.queues.queue in
-    let some : next_head a.t.now a.sizes.cores k queue ≡ 0 → ⊥ = λ z. c.if-queue-eq0.false (c.next_head-queue.ensures ∙ z) in
+    let queue = c.queues.head in
+    let some : next_head a.t.now a.sizes.cores k queue ≡ 0 → ⊥ = λ z. c.if-head-eq0.false (c.next_head-head.ensures ∙ z) in
     let ends =
-    sym c.queue_ends.ensures ∙ c.if-not-queue_ends.false in
-    rw (c.mark_head.ensures, c.next_head-queue.ensures)
+    sym c.ends.ensures ∙ c.if-not-ends.false in
+    rw (c.mark_head.ensures, c.next_head-head.ensures)
     (record {
       in_range = next_inside a.t.now a.sizes.cores a.sizes.processes a.sizes.channels k (met_numbers l.met) queue l.p l.last l.size ends some;
       long = marked_long (met_numbers l.met) queue a.sizes.processes ∙ l.invariant.long;
@@ -88,11 +88,11 @@ cores-preserved c =
     let l = c.loop-p in
     let a = c.args in
     let ends =
-    sym c.queue_ends.ensures ∙ c.if-not-queue_ends.false in
-    let none = sym c.next_head-queue.ensures ∙ c.if-queue-eq0.true in
+    sym c.ends.ensures ∙ c.if-not-ends.false in
+    let none = sym c.next_head-head.ensures ∙ c.if-head-eq0.true in
     rw c.mark_head.ensures
     (record {
-      long = marked_long (met_numbers l.met) c.queues.queue a.sizes.processes ∙ l.invariant.long;
+      long = marked_long (met_numbers l.met) c.queues.head a.sizes.processes ∙ l.invariant.long;
       left = l.invariant.left
           ∙ last_queue _ _ _ _ _ (met_numbers l.met) _ l.p l.last l.size c.loop-p-test.false ends none;
     })
@@ -110,8 +110,8 @@ returns-then-not-meet c =
     let stale = sym c.meet.ensures.first ∙ c.if-not-meet.true in
     sym (l.invariant.left ∙ met_before _ _ _ _ _ (met_numbers l.met) _ l.p l.last l.size c.loop-p-test.true stale)
 
-pub returns-then-not-queue_ends : goal.returns-then-not-queue_ends
-returns-then-not-queue_ends c =
+pub returns-then-not-ends : goal.returns-then-not-ends
+returns-then-not-ends c =
     let l = c.loop-p in
-    let flawed = sym c.queue_ends.ensures ∙ c.if-not-queue_ends.true in
+    let flawed = sym c.ends.ensures ∙ c.if-not-ends.true in
     sym (l.invariant.left ∙ ends_badly _ _ _ _ _ (met_numbers l.met) _ l.p l.last l.size c.loop-p-test.false flawed)

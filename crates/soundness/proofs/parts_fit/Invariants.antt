@@ -9,16 +9,16 @@ use Rattle.soundness.proofs.parts_fit.Given as goal
 
 abbrev pub invariant-loop-p : goal.invariant-loop-p
 invariant-loop-p l =
-    AtProcess l.t l.sizes.cores l.sizes.processes l.sizes.channels l.k l.queue (met_numbers l.initial.met) l.initial.p (met_numbers l.met) l.p l.last l.size
+    AtProcess l.t l.sizes.cores l.sizes.processes l.sizes.channels l.k l.head (met_numbers l.initial.met) l.initial.p (met_numbers l.met) l.p l.last l.size
 
 abbrev pub decreases-loop-p : goal.decreases-loop-p
 decreases-loop-p l = unmet l.sizes.processes (met_numbers l.met)
 
 abbrev pub invariant-queues : goal.invariant-queues
-invariant-queues l = AtQueue l.t l.sizes.cores l.sizes.processes l.sizes.channels l.k (met_numbers l.met) l.queue
+invariant-queues l = AtQueue l.t l.sizes.cores l.sizes.processes l.sizes.channels l.k (met_numbers l.met) l.head
 
 abbrev pub decreases-queues : goal.decreases-queues
-decreases-queues l = unmet l.sizes.processes (met_numbers l.met) + bit (eqb l.queue 0)
+decreases-queues l = unmet l.sizes.processes (met_numbers l.met) + bit (eqb l.head 0)
 
 abbrev pub invariant-cores : goal.invariant-cores
 invariant-cores l = AtCore l.t l.sizes.cores l.sizes.processes l.sizes.channels l.k (met_numbers l.met)
