@@ -8,6 +8,7 @@ use processes::{Met, process_fits};
 use records::channels::channel_fits;
 use table::{Channel, Process, Sizes};
 
+// Beside `channels_fit`: one function of the test would need a definition of its own for what the two have in the check's definition.
 fn processes_fit(t: &[u32], sizes: Sizes, met: &[Met; 257]) -> bool
     requires { (IsOfSizes t.now sizes) × (sizes.processes ≤ 256) }
     ensures { result ≡ processes_fit t.now sizes.cores sizes.processes sizes.channels (met_numbers met.now) 1 sizes.processes }
