@@ -6,7 +6,8 @@ ghost use Rattle.soundness.specs.Parts.{first_of, stand_at, next_head, next_fits
 
 use table::{Core, Process, Record, Sizes};
 
-// A queue of a core: the active one has the head 0, a batch goes by its head.
+// A queue of a core: the active one has the head 0, a batch goes by its head. (A word, as the table has it, where 0 is none: an enum would
+// be made of each such word and taken apart again in each function.)
 #[derive(Clone, Copy, Debug, PartialEq, Eq)]
 pub struct Queue {
     pub sizes: Sizes,
