@@ -1,5 +1,5 @@
 -- What a core does, by the words that are read: a process runs, or it has a kernel task, or none; and what waking comes to.
-use Prim.Native.Nat.{ℕ, ◌≤◌, ◌<◌}
+use Prim.Native.Nat.{ℕ, zero, suc, ◌≤◌, ◌<◌}
 use mathlib.Core.Path.{◌≡◌, refl, sym, ap, ◌∙◌, subst}
 use mathlib.Core.Bool.{false}
 use Rattle.std.specs.Prelude.{Result, Ok}
@@ -15,12 +15,13 @@ use Rattle.rules.specs.Rule.{Ran, run, done, ◌>>◌}
 use Rattle.rules.specs.Steps.{has_task}
 use Rattle.rules.specs.Choice.{trigger_step}
 use Rattle.rules.specs.CoreStep.{work_step, step}
-use Rattle.rules.specs.Layout.{core_at, core_runs, core_task, core_task_process, task_none, task_trigger, task_wake}
+use Rattle.rules.specs.Layout.{core_at, core_runs, core_task, core_task_process, task_none, task_wake}
 use Rattle.rules.specs.Packing.{view, work_words, work_numbered, word_of_core}
 use Rattle.rules.proofs.Tests.{within_means}
 use Rattle.answers.specs.declared.Refusal.{Refusal}
 use Rattle.table.specs.Has.{HasCore}
 use Rattle.parts.specs.Does.{Card, Comes, Does}
+use Rattle.parts.specs.Tasks.{task_numbered}
 use Rattle.parts.specs.Shared.{task_table}
 use Rattle.parts.proofs.Card.{card_core, card_process, card_inside, processes_are, work_valid}
 use Rattle.parts.proofs.Seen.{work_seen}
@@ -28,16 +29,12 @@ use Rattle.parts.proofs.Packs.{card_packs, core_read, task_written}
 use Rattle.steps.specs.Wakes.{CanWake, Wakes}
 use Rattle.steps.proofs.Waking.{GoesOn, woken}
 use Rattle.scheduler.specs.Free.{Free}
-use Rattle.core_step.specs.Running.{Running, Idle, HasTask}
+use Rattle.core_step.specs.Running.{Running, Idle}
 
 -- the step of a core is that of its work
 does_work : (t : List ℕ) (k : ℕ) (w : Work) → (core_of (view t) k).work ≡ w → (r : Said) (u : List ℕ)
     → Comes (run (work_step k (core_of (view t) k) w) (view t)) t r u → Does (step k) t r u
 does_work t k w e r u h = subst (λ (x : Work). Comes (run (work_step k (core_of (view t) k) x) (view t)) t r u) (sym e) h
-
--- the task of a number
-abbrev task_numbered : ℕ → ℕ → Task
-task_numbered task q = get_or (no_task ∷ trigger q ∷ wake_up q ∷ []) task no_task
 
 -- the number of a task is at most task_wake
 task_number : (w : Work) → get_or (work_words w) core_task 0 ≤ task_wake
@@ -62,25 +59,27 @@ module _ {t : List ℕ} {cores processes k : ℕ} (card : Card t cores processes
     pub is_idle : p ≡ 0 → Idle t cores processes k
     is_idle e = record { card = card; core = card_core t cores processes k card; nobody = sym read ∙ e }
 
-module _ {t : List ℕ} {cores processes k task q : ℕ} (has : HasTask t cores processes k task q) where
-  task_is : (core_of (view t) k).work ≡ free (task_numbered task q)
-  task_is = work_is has.idle.card ∙ rw (has.idle.nobody, ← has.task_word, ← has.process_word) refl
+-- among those of a work, the kinds up to task_wake are those of the tasks
+kinds_are : (n q : ℕ) → n ≤ task_wake → get_or (no_task ∷ trigger q ∷ wake_up q ∷ []) n no_task ≡ task_numbered n q
+kinds_are zero q h = refl
+kinds_are (suc zero) q h = refl
+kinds_are (suc (suc zero)) q h = refl
+kinds_are (suc (suc (suc n))) q h = absurd (omega arith)
 
-  pub is_free : task ≡ task_none → Free t cores processes k no_task
-  is_free e = record { card = has.idle.card; work = task_is ∙ ap (λ n. free (task_numbered n q)) e }
+pub has_the_task : {t : List ℕ} {cores processes k : ℕ} → Idle t cores processes k → {x : Task}
+    → x ≡ task_numbered (get_or t (core_at k core_task) 0) (get_or t (core_at k core_task_process) 0) → Free t cores processes k x
+has_the_task {t} {k = k} idle is =
+    let card = idle.card in
+    let read : get_or t (core_at k core_task) 0 ≡ get_or (work_words (core_of (view t) k).work) core_task 0 = core_read (card_packs card) k (card_inside card) core_task (lit< tt) in
+    let least : get_or t (core_at k core_task) 0 ≤ task_wake = omega (arith, task_number (core_of (view t) k).work) in
+    record { card = card; work = work_is card ∙ rw idle.nobody (ap free (kinds_are _ _ least ∙ sym is)) }
 
-  pub is_trigger : task ≡ task_trigger → (core_of (view t) k).work ≡ free (trigger q)
-  is_trigger e = task_is ∙ ap (λ n. free (task_numbered n q)) e
+module _ {t : List ℕ} {cores processes k q : ℕ} (pre : Free t cores processes k (trigger q)) where
+  pub is_trigger : (core_of (view t) k).work ≡ free (trigger q)
+  is_trigger = pre.work
 
-  pub does_trigger : (r : Said) (u : List ℕ) → task ≡ task_trigger → Does (trigger_step k q) t r u → Does (step k) t r u
-  does_trigger r u e h = does_work t k (free (trigger q)) (is_trigger e) r u h
-
-  pub is_wake : (task ≡ task_none → ⊥) → (task ≡ task_trigger → ⊥) → Free t cores processes k (wake_up q)
-  is_wake a b =
-      let card = has.idle.card in
-      let read : get_or t (core_at k core_task) 0 ≡ get_or (work_words (core_of (view t) k).work) core_task 0 = core_read (card_packs card) k (card_inside card) core_task (lit< tt) in
-      let last : task ≡ task_wake = omega (arith, task_number (core_of (view t) k).work) in
-      record { card = card; work = task_is ∙ ap (λ n. free (task_numbered n q)) last }
+  pub does_trigger : (r : Said) (u : List ℕ) → Does (trigger_step k q) t r u → Does (step k) t r u
+  does_trigger r u h = does_work t k (free (trigger q)) pre.work r u h
 
 pub free_core : {t u : List ℕ} {cores processes k : ℕ} {x : Task} → Free t cores processes k x → length u ≡ length t → HasCore u k
 free_core {t} {u} {cores} {processes} {k} pre same = let has = card_core t cores processes k pre.card in omega arith

@@ -3,7 +3,7 @@ use Rattle.std.specs.Prelude.{ℕ, ◌≡◌, List, get_or}
 use Rattle.std.proofs.Math.Option.{Option}
 use Rattle.rules.specs.State.{Way, Stage, look, park, copy, clear, wake, enable_look, raise, place_name, ready_from_look, ready_from_place, wait, disable, lower, finish, runs}
 use Rattle.rules.specs.Items.{core_of}
-use Rattle.rules.specs.Layout.{core_at, core_runs, core_task, core_task_process}
+use Rattle.rules.specs.Layout.{core_at, core_runs}
 use Rattle.rules.specs.Packing.{view}
 use Rattle.layout.specs.declared.progress.Exchange.{Exchange}
 use Rattle.layout.specs.declared.progress.Exchange.TheVariants.{Look, Park, Copy, Clear, Wake}
@@ -48,9 +48,3 @@ pub record Idle (t : List ℕ) (cores processes k : ℕ) : Type 0 where
   pub card : Card t cores processes k
   pub core : HasCore t k
   pub nobody : get_or t (core_at k core_runs) 0 ≡ 0
-
--- and the number of its task and the process of that were read
-pub record HasTask (t : List ℕ) (cores processes k task q : ℕ) : Type 0 where
-  pub idle : Idle t cores processes k
-  pub task_word : task ≡ get_or t (core_at k core_task) 0
-  pub process_word : q ≡ get_or t (core_at k core_task_process) 0

@@ -5,17 +5,18 @@ ghost use Rattle.rules.specs.State.{wake_up};
 ghost use Rattle.rules.specs.CoreStep.{step};
 ghost use Rattle.layout.specs.Numbers.{which};
 ghost use Rattle.answers.specs.Said.{said};
+ghost use Rattle.parts.specs.Tasks.{meant};
 ghost use Rattle.parts.specs.Does.{Card, At, Does};
 ghost use Rattle.scheduler.specs.Free.{Free};
-ghost use Rattle.core_step.specs.Running.{Running, exchanged, chosen_by, Idle, HasTask};
+ghost use Rattle.core_step.specs.Running.{Running, exchanged, chosen_by, Idle};
 
 use answers::{Answer, Refusal, Reply};
-use layout::TaskKind;
 use layout::progress::{Choice, Exchange, Progress, Way};
 use parts::Task;
 use table::{Core, Process, Record, Sizes};
 
-// A stage of send or receive, with the channel c and the partner q.
+// A stage of send or receive, with the channel c and the partner q. (A match, here and below, and no table of functions: the kinds are closed,
+// and each arm's function asks for another stage.)
 #[tactic(auto, using(crate::proofs::Stage::does_stage))]
 fn exchange_step(
     t: &mut [u32],
@@ -88,32 +89,27 @@ fn wake_task_step(t: &mut [u32], core: Core, q: Process) -> Reply
     Ok(Answer::Moved)
 }
 
-// The kernel task of this number, of process q; the scheduler where there is none.
-#[tactic(auto, using(crate::proofs::Tasks::is_free, crate::proofs::Tasks::is_trigger, crate::proofs::Tasks::does_trigger, crate::proofs::Tasks::is_wake))]
-fn task_step(t: &mut [u32], core: Core, task: u32, q: Process) -> Reply
-    requires { HasTask t.old q.sizes.cores q.sizes.processes core.0 task q.number }
+// The kernel task of the core; the scheduler where there is none.
+#[tactic(auto, using(crate::proofs::Tasks::is_trigger, crate::proofs::Tasks::does_trigger))]
+fn task_step(t: &mut [u32], sizes: Sizes, core: Core, task: Task) -> Reply
+    requires { Free t.old sizes.cores sizes.processes core.0 (meant task) }
     ensures { Does (step core.0) t.old (said result) t.new }
 {
-    if task == TaskKind::None as u32 {
-        scheduler::schedule(t, q.sizes, core)
-    } else if task == TaskKind::Trigger as u32 {
-        choice::trigger_step(t, core, q)
-    } else {
-        wake_task_step(t, core, q)
+    match task {
+        Task::None => scheduler::schedule(t, sizes, core),
+        Task::Trigger(number) => choice::trigger_step(t, core, Process { sizes, number }),
+        Task::Wake(number) => wake_task_step(t, core, Process { sizes, number }),
     }
 }
 
 // Nothing runs on the core: the task that it has.
+#[tactic(auto, using(crate::proofs::Tasks::has_the_task))]
 fn free_step(t: &mut [u32], sizes: Sizes, core: Core) -> Reply
     requires { Idle t.old sizes.cores sizes.processes core.0 }
     ensures { Does (step core.0) t.old (said result) t.new }
 {
-    let task = core.word(t, layout::CORE_TASK);
-    let q = Process {
-        sizes,
-        number: core.word(t, layout::CORE_TASK_PROCESS),
-    };
-    task_step(t, core, task, q)
+    let task = Task::of(t, core);
+    task_step(t, sizes, core, task)
 }
 
 // The next atomic step of the core.

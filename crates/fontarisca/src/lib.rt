@@ -38,7 +38,7 @@ fn check_first(table: &[u32], answer: &[u32], core: u32) -> Result<(), Refusal>
     }
 }
 
-// The first refusals, then the rule of what is asked.
+// The first refusals, then the rule of what is asked. (A match: a closure for the rule would have to carry its promise past the refusals.)
 fn reply_to(table: &mut [u32], answer: &[u32], core: u32, ask: Ask<'_>) -> Reply
     ensures { Replies table.old (lends answer.now) core (asks ask.entry) (said result) table.new }
 {

@@ -55,19 +55,19 @@ pub enum Progress {
 #[derive(Clone, Copy, Debug, PartialEq, Eq)]
 pub struct NoProgress;
 
-impl Outcome {
-    pub fn number(self) -> u32
-        ensures { result ≡ outcome_number self }
-    {
-        self as u32
+impl From<Outcome> for u32 {
+    ghost from_gives = { λ outcome n. n ≡ outcome_number outcome };
+
+    fn from(outcome: Outcome) -> u32 {
+        outcome as u32
     }
 }
 
-impl Progress {
-    pub fn number(self) -> u32
-        ensures { result ≡ number_of self }
-    {
-        match self {
+impl From<Progress> for u32 {
+    ghost from_gives = { λ progress n. n ≡ number_of progress };
+
+    fn from(progress: Progress) -> u32 {
+        match progress {
             Progress::Nothing => 0,
             Progress::Exchanging(Way::Sending, stage) => stage as u32,
             Progress::Exchanging(Way::Receiving, stage) => stage as u32 + 5,

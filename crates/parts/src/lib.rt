@@ -3,11 +3,11 @@
 
 ghost use Rattle.std.specs.Prelude.{◌≡◌, get_or, set};
 ghost use Rattle.rules.specs.Numbers.{MOVED, SLEPT, yes_with};
-ghost use Rattle.rules.specs.Layout.{process_at, process_progress, process_data};
+ghost use Rattle.rules.specs.Layout.{core_at, process_at, core_task, core_task_process, process_progress, process_data};
 ghost use Rattle.layout.specs.Numbers.{number_of, outcome_number};
 ghost use Rattle.answers.specs.Said.{said};
 ghost use Rattle.table.specs.Has.{HasCore, HasProcess};
-ghost use Rattle.parts.specs.Tasks.{kind_of, subject_of};
+ghost use Rattle.parts.specs.Tasks.{kind_of, subject_of, meant, task_numbered};
 ghost use Rattle.parts.specs.Shared.{task_table, asleep_table, cleared, due_table, reported};
 
 use answers::{Answer, Reply};
@@ -21,7 +21,7 @@ pub fn move_on(t: &mut [u32], p: Process, progress: Progress) -> Reply
     ensures table { t.new ≡ set t.old (process_at p.sizes.cores p.number process_progress) (number_of progress) }
     ensures reply { said result ≡ yes_with MOVED }
 {
-    p.set(t, layout::PROCESS_PROGRESS, progress.number());
+    p.set(t, layout::PROCESS_PROGRESS, u32::from(progress));
     Ok(Answer::Moved)
 }
 
@@ -34,6 +34,22 @@ pub enum Task {
 }
 
 impl Task {
+    // The task that the core's words say, where nothing runs there.
+    pub fn of(t: &[u32], core: Core) -> Task
+        requires { HasCore t.now core.0 }
+        ensures { meant result ≡ task_numbered (get_or t.now (core_at core.0 core_task) 0) (get_or t.now (core_at core.0 core_task_process) 0) }
+    {
+        let kind = core.word(t, layout::CORE_TASK);
+        let q = core.word(t, layout::CORE_TASK_PROCESS);
+        if kind == TaskKind::None as u32 {
+            Task::None
+        } else if kind == TaskKind::Trigger as u32 {
+            Task::Trigger(q)
+        } else {
+            Task::Wake(q)
+        }
+    }
+
     fn kind(self) -> u32
         ensures { result ≡ kind_of self }
     {
@@ -66,7 +82,8 @@ pub fn has_task(t: &mut [u32], core: Core, task: Task)
     core.set(t, layout::CORE_TASK_PROCESS, task.subject());
 }
 
-// Process p of the core falls asleep, and the core has a task.
+// Process p of the core falls asleep, and the core has a task. (Core and process, which steps take side by side, stay two records: each is
+// written by itself, and a pair would be taken apart in each function.)
 pub fn falls_asleep(t: &mut [u32], core: Core, p: Process, task: Task) -> Reply
     requires process { HasProcess t.old p.sizes.cores p.number }
     requires core { HasCore t.old core.0 }
@@ -93,7 +110,7 @@ pub fn set_due(t: &mut [u32], p: Process, outcome: Outcome, c: u32)
     ensures { t.new ≡ due_table t.old p.sizes.cores p.number (outcome_number outcome) c }
 {
     clear_progress(t, p);
-    p.set(t, layout::PROCESS_PROGRESS, outcome.number());
+    p.set(t, layout::PROCESS_PROGRESS, u32::from(outcome));
     p.set(t, layout::PROCESS_CHANNEL, c);
 }
 

@@ -37,7 +37,7 @@ fn requester(t: &[u32], sizes: Sizes, core: Core) -> Option<Process>
         sizes,
         number: core.word(t, layout::CORE_RUNS),
     };
-    if p.number != 0 && p.word(t, layout::PROCESS_PROGRESS) == Progress::Nothing.number() {
+    if p.number != 0 && p.word(t, layout::PROCESS_PROGRESS) == u32::from(Progress::Nothing) {
         Some(p)
     } else {
         None
@@ -71,7 +71,7 @@ fn begin_look(t: &mut [u32], p: Process, way: Way, c: u32)
     p.set(
         t,
         layout::PROCESS_PROGRESS,
-        Progress::Exchanging(way, Exchange::Look).number(),
+        u32::from(Progress::Exchanging(way, Exchange::Look)),
     );
     p.set(t, layout::PROCESS_CHANNEL, c);
 }
@@ -131,7 +131,7 @@ fn begin_enabling(t: &mut [u32], p: Process, guards: &[u32])
     p.set(
         t,
         layout::PROCESS_PROGRESS,
-        Progress::Choosing(Choice::EnableLook).number(),
+        u32::from(Progress::Choosing(Choice::EnableLook)),
     );
     p.set(t, layout::PROCESS_GUARDS, guards.len() as u32);
     p.set(t, layout::PROCESS_INDEX, 1);
@@ -157,7 +157,7 @@ fn yields(t: &mut [u32], core: Core, p: Process) -> Reply
     requires { Idle t.old p.sizes core.0 p.number }
     ensures { Does (asks (users (view t.old)) core.0 p.number yield) t.old (said result) t.new }
 {
-    p.set(t, layout::PROCESS_PROGRESS, Outcome::Go.number());
+    p.set(t, layout::PROCESS_PROGRESS, u32::from(Outcome::Go));
     queues::joins(t, core, p);
     parts::has_task(t, core, Task::None);
     Ok(Answer::Taken(p.number, 0))
@@ -173,7 +173,7 @@ fn ends(t: &mut [u32], core: Core, p: Process) -> Reply
     Ok(Answer::Taken(p.number, 0))
 }
 
-// Process p, which has nothing in hand, does what it is asked for.
+// Process p, which has nothing in hand, does what it is asked for. (A match: the kinds of request are those of the exports.)
 fn perform(t: &mut [u32], core: Core, p: Process, r: Request<'_>) -> Reply
     requires { Idle t.old p.sizes core.0 p.number }
     ensures { Does (asks (users (view t.old)) core.0 p.number (asked r.entry)) t.old (said result) t.new }

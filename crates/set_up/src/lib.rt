@@ -71,10 +71,11 @@ fn fill_process(t: &mut [u32], p: Process)
     ensures { t.new ≡ process_filled p.sizes.cores p.number t.old }
 {
     p.set(t, layout::PROCESS_PLACE, Place::Queued as u32);
-    p.set(t, layout::PROCESS_PROGRESS, Outcome::Go.number());
+    p.set(t, layout::PROCESS_PROGRESS, u32::from(Outcome::Go));
 }
 
-// The processes.
+// The processes. (Beside `fill_channels` and `fill_queues`: one function of what is done in turn would need the fold of its closure's promise
+// in its contract, for loops of one line.)
 #[tactic(auto, using(crate::proofs::Turns::one_turn))]
 fn fill_processes(t: &mut [u32], sizes: Sizes)
     requires lies_in { channels_at sizes.cores sizes.processes ≤ length t.old }

@@ -93,7 +93,7 @@ fn sleeps(t: &mut [u32], core: Core, p: Process, way: Way, task: Task) -> Reply
     ensures table { t.new ≡ asleep_table (slice_set t.old (process_at p.sizes.cores p.number process_progress) (due_of (which way))) p.sizes.cores core.0 p.number (kind_of task) (subject_of task) }
     ensures reply { said result ≡ yes_with (SLEPT p.number) }
 {
-    p.set(t, layout::PROCESS_PROGRESS, due(way).number());
+    p.set(t, layout::PROCESS_PROGRESS, u32::from(due(way)));
     parts::falls_asleep(t, core, p, task)
 }
 

@@ -1,4 +1,5 @@
--- The table reaches to the end of the words of a core, of a process, of a channel, among as many cores and processes.
+-- The table reaches to the end of the words of a core, of a process, of a channel, among as many cores and processes. (Said in clauses and
+-- held by no type: it is of a record and the slice that the host lends, which a type that held it would have to hold.)
 use Rattle.std.specs.Prelude.{ℕ, ◌≤◌, ◌≡◌, List, length}
 use Rattle.rules.specs.Layout.{core_stride, process_stride, channel_stride, core_at, process_at, channel_at, room}
 use Rattle.table.specs.declared.Sizes.{Sizes}
