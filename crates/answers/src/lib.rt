@@ -47,7 +47,7 @@ pub enum Refusal {
 pub type Reply = Result<Answer, Refusal>;
 
 impl Answer {
-    // The number returned.
+    // The number returned. (Two methods, this and `words`, and no `From`: neither is the whole of an answer.)
     pub fn number(self) -> u32
         ensures { result ≡ (reply (answered self)).number }
     {
@@ -88,7 +88,7 @@ impl From<Refusal> for u32 {
     }
 }
 
-// The number that a call returns.
+// The number that a call returns. (A function: a reply is a Result, for which no `From` can be written here.)
 pub fn number(r: Reply) -> u32
     ensures { result ≡ number_of (said r) }
 {

@@ -15,8 +15,9 @@ use layout::progress::{Choice, Exchange, Progress, Way};
 use parts::Task;
 use table::{Core, Process, Record, Sizes};
 
-// A stage of send or receive, with the channel c and the partner q. (A match, here and below, and no table of functions: the kinds are closed,
-// and each arm's function asks for another stage.)
+// A stage of send or receive, with the channel c and the partner q. (A match, here and below, and no table of functions: the kinds are
+// closed, and each arm's function asks for another stage. Way, channel and partner go side by side, as in the rules' stages, since look and
+// park have no partner.)
 #[tactic(auto, using(crate::proofs::Stage::does_stage))]
 fn exchange_step(
     t: &mut [u32],
@@ -118,12 +119,9 @@ pub fn step(t: &mut [u32], sizes: Sizes, core: Core) -> Reply
     requires { Card t.old sizes.cores sizes.processes core.0 }
     ensures { Does (step core.0) t.old (said result) t.new }
 {
-    let p = Process {
-        sizes,
-        number: core.word(t, layout::CORE_RUNS),
-    };
-    if p.number == 0 {
+    let number = core.word(t, layout::CORE_RUNS);
+    if number == 0 {
         return free_step(t, sizes, core);
     }
-    running_step(t, core, p)
+    running_step(t, core, Process { sizes, number })
 }

@@ -31,7 +31,7 @@ fn check_first(table: &[u32], answer: &[u32], core: u32) -> Result<(), Refusal>
     if !soundness::sound(table) {
         return Err(Refusal::Damaged);
     }
-    if core < Sizes::read(table).cores {
+    if (core as usize) < Sizes::read(table).cores {
         Ok(())
     } else {
         Err(Refusal::Core)
@@ -45,8 +45,8 @@ fn reply_to(table: &mut [u32], answer: &[u32], core: u32, ask: Ask<'_>) -> Reply
     check_first(table, answer, core)?;
     let sizes = Sizes::read(table);
     match ask {
-        Ask::Step => core_step::step(table, sizes, Core(core)),
-        Ask::Request(request) => requests::make(table, sizes, Core(core), request),
+        Ask::Step => core_step::step(table, sizes, Core(core as usize)),
+        Ask::Request(request) => requests::make(table, sizes, Core(core as usize), request),
     }
 }
 
@@ -64,8 +64,8 @@ pub fn fontarisca_set_up(k: u32, n: u32, m: u32, pairs: &[u32], table: &mut [u32
     ensures { MeetsBuilt (set_up_call k n m pairs.now table.old) (builds result table.new) }
 {
     let sizes = Sizes {
-        cores: k,
-        processes: n,
+        cores: k as usize,
+        processes: n as usize,
         channels: m,
     };
     if let Err(why) = set_up::build(sizes, pairs, table) {

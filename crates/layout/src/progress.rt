@@ -72,7 +72,7 @@ impl From<Progress> for u32 {
             Progress::Exchanging(Way::Sending, stage) => stage as u32,
             Progress::Exchanging(Way::Receiving, stage) => stage as u32 + 5,
             Progress::Choosing(stage) => stage as u32,
-            Progress::Due(outcome) => outcome as u32,
+            Progress::Due(outcome) => u32::from(outcome),
         }
     }
 }

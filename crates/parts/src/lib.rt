@@ -34,7 +34,7 @@ pub enum Task {
 }
 
 impl Task {
-    // The task that the core's words say, where nothing runs there.
+    // The task that the core's words say, where nothing runs there. (No TryFrom of the kind: there is no other in a sound table.)
     pub fn of(t: &[u32], core: Core) -> Task
         requires { HasCore t.now core.0 }
         ensures { meant result ≡ task_numbered (get_or t.now (core_at core.0 core_task) 0) (get_or t.now (core_at core.0 core_task_process) 0) }

@@ -26,15 +26,16 @@ pub enum Met {
     Head, // of a batch
 }
 
-// A running process has nothing in hand or a stage; a queued or sleeping one a stage or an outcome; an ended one nothing.
+// A running process has nothing in hand or a stage; a queued or sleeping one a stage or an outcome; an ended one nothing. (The place is a
+// word here, which may be of none.)
 fn place_fits(place: u32, progress: Progress) -> bool
     ensures { result ≡ place_fits place (number_of progress) }
 {
     match progress {
         Progress::Nothing => (place == Place::Running as u32) | (place == Place::Ended as u32),
-        Progress::Due(_) => within(Place::Queued as u32, Place::Asleep as u32, place),
+        Progress::Due(_) => within(Place::Queued as u32, Place::Asleep as usize, place),
         Progress::Exchanging(..) | Progress::Choosing(_) => {
-            within(Place::Running as u32, Place::Asleep as u32, place)
+            within(Place::Running as u32, Place::Asleep as usize, place)
         }
     }
 }

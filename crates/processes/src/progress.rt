@@ -17,10 +17,11 @@ fn end_fits(t: &[u32], p: Process, f: usize, c: u32) -> bool
     ensures { result ≡ end_fits t.now p.sizes.cores p.sizes.processes p.sizes.channels p.number f c }
 {
     let sizes = p.sizes;
-    within(1, sizes.channels, c) && table::may_use(t, Channel { sizes, number: c }, f, p.number)
+    within(1, sizes.channels as usize, c)
+        && table::may_use(t, Channel { sizes, number: c }, f, p.number)
 }
 
-// The `count` guards from the word `from` on: each one's own, none twice.
+// The `count` guards from the word `from` on: each one's own, none twice. (By place and count, as fitting's `guards_fit` has them.)
 fn guards_fit(t: &[u32], p: Process, from: usize, count: usize) -> bool
     requires sized { IsOfSizes t.now p.sizes }
     requires reaches { from + count ≤ length t.now }
@@ -68,7 +69,7 @@ fn guards_stand(t: &[u32], p: Process, g: u32, from: usize) -> bool
 }
 
 // The partner q, of an exchange that has met one.
-fn partner_part(processes: u32, progress: Progress, q: u32) -> bool
+fn partner_part(processes: usize, progress: Progress, q: u32) -> bool
     ensures { result ≡ partner_part processes (number_of progress) q }
 {
     match progress {
@@ -85,7 +86,7 @@ fn index_part(stage: Choice, g: u32, i: u32) -> bool
 {
     match stage {
         Choice::Wait | Choice::Finish => i == 0,
-        _ => within(1, g, i),
+        _ => within(1, g as usize, i),
     }
 }
 

@@ -15,8 +15,8 @@ use layout::{
 };
 use table::{Core, Process, Record, Sizes};
 
-// Process p is linked behind the last one b by the word g of b; where there is none it is the first, the word f of the core. (b is a word as
-// the table has it, where 0 is none, here and below: an Option would be made of it and taken apart at once.)
+// Process p is linked behind the last one b by the word g of b; where there is none it is the first, the word f of the core. (b is a word
+// as the table has it, where 0 is none, here and below: an Option would be made of it and taken apart at once.)
 fn link_end(t: &mut [u32], core: Core, f: usize, g: usize, b: u32, p: Process)
     requires linkable { CanLink t.old p.sizes.cores core.0 b }
     requires of_core { f < core_stride }

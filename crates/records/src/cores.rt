@@ -7,12 +7,12 @@ use crate::zeros;
 use layout::TaskKind;
 use table::{Core, Record, within};
 
-// Task q only where nothing runs.
-fn work_fits(processes: u32, running: u32, task: u32, q: u32) -> bool
+// Task q only where nothing runs. (Words, not an enum: the check is there to find those that mean nothing.)
+fn work_fits(processes: usize, running: u32, task: u32, q: u32) -> bool
     ensures { result ≡ work_fits processes running task q }
 {
     if running != 0 {
-        (running <= processes) & (task == TaskKind::None as u32) & (q == 0)
+        (running as usize <= processes) & (task == TaskKind::None as u32) & (q == 0)
     } else if task == TaskKind::None as u32 {
         q == 0
     } else {
@@ -21,7 +21,7 @@ fn work_fits(processes: u32, running: u32, task: u32, q: u32) -> bool
 }
 
 // Running process and task, dispatch count, mark, unused words.
-pub fn core_fits(t: &[u32], processes: u32, core: Core) -> bool
+pub fn core_fits(t: &[u32], processes: usize, core: Core) -> bool
     requires { HasCore t.now core.0 }
     ensures { result ≡ core_fits t.now processes core.0 }
 {

@@ -50,7 +50,7 @@ fn check_end(t: &[u32], p: Process, f: usize, c: u32) -> Result<(), Refusal>
     requires lies_in { room p.sizes.cores p.sizes.processes p.sizes.channels ≤ length t.now }
     ensures { result ≡ check_end t.now p.sizes p.number f c }
 {
-    if !table::within(1, p.sizes.channels, c) {
+    if !table::within(1, p.sizes.channels as usize, c) {
         return Err(Refusal::Channel);
     }
     let channel = Channel {

@@ -79,6 +79,7 @@ impl Kind {
     }
 }
 
+// The words of each kind by name. (Four functions: one of all of them would be too long to read.)
 fn header_word(name: &[u8]) -> Option<usize> {
     match name {
         b"cores" => Some(layout::HEADER_CORES),

@@ -16,7 +16,7 @@ use layout::progress::Outcome;
 use table::{Channel, Core, Process, Record, Sizes, within};
 
 // NAME where the writer or the reader is none of the n processes, before SELF where both are one.
-fn check_pair(n: u32, writer: u32, reader: u32) -> Result<(), Refusal>
+fn check_pair(n: usize, writer: u32, reader: u32) -> Result<(), Refusal>
     ensures { why_not result ≡ proper_pairs n (record { writer = writer; reader = reader } ∷ []) }
 {
     if !(within(1, n, writer) && within(1, n, reader)) {
@@ -29,7 +29,7 @@ fn check_pair(n: u32, writer: u32, reader: u32) -> Result<(), Refusal>
 }
 
 // What is wrong with the first bad pair.
-fn check_pairs(n: u32, pairs: &[u32]) -> Result<(), Refusal>
+fn check_pairs(n: usize, pairs: &[u32]) -> Result<(), Refusal>
     ensures { why_not result ≡ proper_pairs n (ends_of pairs.now) }
 {
     for pair in pairs.chunks_exact(2) {
@@ -56,12 +56,14 @@ fn check(sizes: Sizes, pairs: &[u32], size: usize) -> Result<(), Refusal>
 
 // K, N and M, and no word else, whatever the table held.
 fn fill_header(t: &mut [u32], sizes: Sizes)
-    requires { header_size ≤ length t.old }
+    requires lies_in { header_size ≤ length t.old }
+    requires few_cores { sizes.cores ≤ 8 }
+    requires few_processes { sizes.processes ≤ 256 }
     ensures { t.new ≡ header_filled sizes.cores sizes.processes sizes.channels t.old }
 {
     t.fill(0);
-    t[layout::HEADER_CORES] = sizes.cores;
-    t[layout::HEADER_PROCESSES] = sizes.processes;
+    t[layout::HEADER_CORES] = sizes.cores as u32;
+    t[layout::HEADER_PROCESSES] = sizes.processes as u32;
     t[layout::HEADER_CHANNELS] = sizes.channels;
 }
 
@@ -74,20 +76,20 @@ fn fill_process(t: &mut [u32], p: Process)
     p.set(t, layout::PROCESS_PROGRESS, u32::from(Outcome::Go));
 }
 
-// The processes. (Beside `fill_channels` and `fill_queues`: one function of what is done in turn would need the fold of its closure's promise
-// in its contract, for loops of one line.)
+// The processes. (Beside `fill_channels` and `fill_queues`: one function of what is done in turn would need the fold of its closure's
+// promise in its contract, for loops of one line.)
 #[tactic(auto, using(crate::proofs::Turns::one_turn))]
 fn fill_processes(t: &mut [u32], sizes: Sizes)
     requires lies_in { channels_at sizes.cores sizes.processes ≤ length t.old }
     requires few_processes { sizes.processes ≤ 256 }
     ensures { t.new ≡ in_turn (process_filled sizes.cores) 1 sizes.processes t.old }
 {
-    for p in 1..=sizes.processes {
+    for p in 1..=sizes.processes as u32 {
         fill_process(t, Process { sizes, number: p });
     }
 }
 
-// Channel c, with its writer and its reader.
+// Channel c, with its writer and its reader. (The pairs are one list of words, as the host lends it.)
 fn fill_channel(t: &mut [u32], c: Channel, pairs: &[u32])
     requires channel { HasChannel t.old c.sizes.cores c.sizes.processes c.number }
     requires pairs_lie_in { 2 * c.number ≤ length pairs.now }
@@ -118,7 +120,7 @@ fn stand_alone(t: &mut [u32], p: Process)
     requires from_one { 1 ≤ p.number }
     ensures { t.new ≡ alone p.sizes.cores p.number t.old }
 {
-    let core = Core((p.number - 1) % p.sizes.cores);
+    let core = Core((p.number as usize - 1) % p.sizes.cores);
     queues::push(t, core, p);
     queues::store(t, p.sizes, core);
 }
@@ -131,7 +133,7 @@ fn fill_queues(t: &mut [u32], sizes: Sizes)
     requires few_processes { sizes.processes ≤ 256 }
     ensures { t.new ≡ in_batches sizes.cores sizes.processes t.old }
 {
-    for p in 1..=sizes.processes {
+    for p in 1..=sizes.processes as u32 {
         stand_alone(t, Process { sizes, number: p });
     }
 }

@@ -42,6 +42,7 @@ fn parts_fit(t: &[u32], sizes: Sizes) -> bool
                 let mut p = queue.first(t);
                 let mut last = 0;
                 let mut size = 0;
+                // along the links, which end with 0: no index is counted
                 while p != 0 {
                     if !meet(&mut met, sizes.processes, p, Met::Queued) {
                         break 'check;

@@ -1,4 +1,5 @@
-// Who was met so far: what was met of each process, by its name. (Place 0 is not used.)
+// Who was met so far: what was met of each process, by its name. (Place 0 is not used. The words are fixed memory, 257 of them whatever N is:
+// so N stands beside them, and that it is at most 256 stays a clause.)
 ghost use Rattle.std.specs.Prelude.{◌≡◌, ◌≤◌, set, if◌then◌else◌};
 ghost use Rattle.table.specs.Has.{HasCore};
 ghost use Rattle.processes.specs.Met.{met_number, met_numbers};
@@ -11,7 +12,7 @@ use table::{Core, Record, within};
 
 // Meets p, unless there is no such process or it was met before.
 #[tactic(auto, using(crate::proofs::Numbers::numbers_set))]
-pub fn meet(met: &mut [Met; 257], processes: u32, p: u32, how: Met) -> bool
+pub fn meet(met: &mut [Met; 257], processes: usize, p: u32, how: Met) -> bool
     requires { processes ≤ 256 }
     ensures first { result ≡ fresh processes (met_numbers met.old) p }
     ensures met { met_numbers met.new ≡ (if result then set (met_numbers met.old) p (met_number how) else met_numbers met.old) }
@@ -28,7 +29,7 @@ pub fn meet(met: &mut [Met; 257], processes: u32, p: u32, how: Met) -> bool
 }
 
 // A core's own words fit, and its running process is met.
-pub fn enter_core(t: &[u32], processes: u32, core: Core, met: &mut [Met; 257]) -> bool
+pub fn enter_core(t: &[u32], processes: usize, core: Core, met: &mut [Met; 257]) -> bool
     requires { (HasCore t.now core.0) × (processes ≤ 256) }
     ensures { outcome result (met_numbers met.new) ≡ core_enters t.now processes core.0 (met_numbers met.old) }
 {

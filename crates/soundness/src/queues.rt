@@ -60,7 +60,7 @@ impl Queue {
         if next == 0 {
             self.core.word(t, layout::CORE_LAST_HEAD) == self.head
         } else {
-            next <= self.sizes.processes
+            next as usize <= self.sizes.processes
         }
     }
 

@@ -13,7 +13,7 @@ fn processes_fit(t: &[u32], sizes: Sizes, met: &[Met; 257]) -> bool
     requires { (IsOfSizes t.now sizes) × (sizes.processes ≤ 256) }
     ensures { result ≡ processes_fit t.now sizes.cores sizes.processes sizes.channels (met_numbers met.now) 1 sizes.processes }
 {
-    for number in 1..=sizes.processes {
+    for number in 1..=sizes.processes as u32 {
         if !process_fits(t, Process { sizes, number }, met[number as usize]) {
             return false;
         }

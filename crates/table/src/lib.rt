@@ -15,16 +15,16 @@ use layout::{
 // K, N and M, by which the records have their places.
 #[derive(Clone, Copy, Debug, PartialEq, Eq)]
 pub struct Sizes {
-    pub cores: u32,
-    pub processes: u32,
+    pub cores: usize,
+    pub processes: usize,
     pub channels: u32,
 }
 
 // x is one of low, .. high.
-pub fn within(low: u32, high: u32, x: u32) -> bool
+pub fn within(low: u32, high: usize, x: u32) -> bool
     ensures { result ≡ within low high x }
 {
-    (low <= x) & (x <= high)
+    (low <= x) & (x as usize <= high)
 }
 
 impl Sizes {
@@ -36,8 +36,8 @@ impl Sizes {
         ensures channels { result.channels ≡ get_or t.now header_channels 0 }
     {
         Sizes {
-            cores: t[HEADER_CORES],
-            processes: t[HEADER_PROCESSES],
+            cores: t[HEADER_CORES] as usize,
+            processes: t[HEADER_PROCESSES] as usize,
             channels: t[HEADER_CHANNELS],
         }
     }
@@ -46,7 +46,9 @@ impl Sizes {
     pub fn are_allowed(self) -> bool
         ensures { result ≡ sizes self.cores self.processes self.channels }
     {
-        within(1, 8, self.cores) & within(1, 256, self.processes) & within(0, 256, self.channels)
+        ((1 <= self.cores) & (self.cores <= 8))
+            & ((1 <= self.processes) & (self.processes <= 256))
+            & (self.channels <= 256)
     }
 
     // The number of words of a table of these sizes.
@@ -55,13 +57,13 @@ impl Sizes {
         ensures { result ≡ room self.cores self.processes self.channels }
     {
         HEADER_SIZE
-            + CORE_STRIDE * self.cores as usize
-            + PROCESS_STRIDE * self.processes as usize
+            + CORE_STRIDE * self.cores
+            + PROCESS_STRIDE * self.processes
             + CHANNEL_STRIDE * self.channels as usize
     }
 }
 
-// A record of a table, whose words go by their numbers f.
+// A record of a table, whose words go by their numbers f. (A word that names a process is 0 for none, and is tested where it is read.)
 pub trait Record: Copy {
     // where the word f stands
     ghost at: { Self → ℕ → ℕ };
@@ -113,8 +115,10 @@ pub trait Record: Copy {
 }
 
 #[derive(Clone, Copy, Debug, PartialEq, Eq)]
-pub struct Core(pub u32);
+pub struct Core(pub usize);
 
+// (That a table reaches to a process or channel stays a clause, of specs/Has.antt: a type that held it would hold the slice that the host
+// lends. Two types, since their places differ.)
 #[derive(Clone, Copy, Debug, PartialEq, Eq)]
 pub struct Process {
     pub sizes: Sizes,
@@ -133,7 +137,7 @@ impl Record for Core {
     ghost numbered = { λ r. 0 ≤ r.0 };
 
     fn at(self, t: &[u32], f: usize) -> usize {
-        HEADER_SIZE + CORE_STRIDE * self.0 as usize + f
+        HEADER_SIZE + CORE_STRIDE * self.0 + f
     }
 }
 
@@ -144,7 +148,7 @@ impl Record for Process {
 
     fn at(self, t: &[u32], f: usize) -> usize {
         let i = self.number as usize;
-        HEADER_SIZE + CORE_STRIDE * self.sizes.cores as usize + PROCESS_STRIDE * (i - 1) + f
+        HEADER_SIZE + CORE_STRIDE * self.sizes.cores + PROCESS_STRIDE * (i - 1) + f
     }
 }
 
@@ -156,8 +160,8 @@ impl Record for Channel {
     fn at(self, t: &[u32], f: usize) -> usize {
         let i = self.number as usize;
         HEADER_SIZE
-            + CORE_STRIDE * self.sizes.cores as usize
-            + PROCESS_STRIDE * self.sizes.processes as usize
+            + CORE_STRIDE * self.sizes.cores
+            + PROCESS_STRIDE * self.sizes.processes
             + CHANNEL_STRIDE * (i - 1)
             + f
     }

@@ -15,7 +15,7 @@ pub enum Holder {
     Choosing(u32),
 }
 
-// The name of process p in a channel word: twice its number.
+// The name of process p in a channel word: twice its number. (Functions, since `From` asks nothing of its argument.)
 pub fn plain_name(p: u32) -> u32
     requires { p < 2 ^ 31 }
     ensures { result ≡ word_number (plain p) }
