@@ -7,7 +7,6 @@
 #![tactic(auto)]
 
 use script::Span;
-use std::alloc::Global;
 use std::io;
 use std::io::Write;
 
@@ -44,71 +43,82 @@ impl<'a> Entry<'a> {
 // The table that the next entries begin with, and how many of its words are lent.
 #[derive(Drop)]
 struct Trial {
-    alloc: Global,
-    table: Vec<u32>,
+    table: [u32; script::WORDS],
     lent: usize,
 }
 
 impl Trial {
+    // A match, as the kinds of entries are closed, and each asks for something else.
     fn perform<W: Write>(&mut self, out: &mut W, entry: Entry<'_>) -> io::Result<()> {
         match entry {
             Entry::Heading(heading) => {
                 out.write_all(heading)?;
                 writeln!(out)
             }
-            Entry::Table(words) => self.begin(out, words),
-            Entry::Length(sizes) => {
-                self.lent = script::length(self.alloc, sizes)?;
+            Entry::Table(words) => {
+                self.begin(out, words);
                 Ok(())
             }
-            Entry::Spread(words) => self.spread(out, words),
+            Entry::Length(sizes) => {
+                self.lent = script::length(sizes);
+                Ok(())
+            }
+            Entry::Spread(words) => {
+                self.spread(out, words);
+                Ok(())
+            }
             Entry::Verdict { name, words } => self.judge(out, name, words),
         }
     }
 
-    fn begin<W: Write>(&mut self, out: &mut W, words: &[u8]) -> io::Result<()> {
-        self.table = script::zeros(self.alloc)?;
-        script::words(out, words, &mut self.table)?;
+    fn begin<W: Write>(&mut self, out: &mut W, words: &[u8]) {
+        self.table = script::zeros();
+        name_words(out, words, &mut self.table);
         self.lent = script::table_length(&self.table);
-        Ok(())
     }
 
     // The entry's numbers are the two records, the first value and the step; the word is found in a copy, into which they are written too.
-    fn spread<W: Write>(&mut self, out: &mut W, words: &[u8]) -> io::Result<()> {
-        let numbers = script::numbers(self.alloc, words)?;
-        let mut copy = self.table.clone()?;
-        let span = script::words(out, words, &mut copy)?;
-        write_spread(&mut self.table, span, &numbers);
-        Ok(())
+    fn spread<W: Write>(&mut self, out: &mut W, words: &[u8]) {
+        let mut numbers = [0; 4];
+        script::numbers(words, &mut numbers);
+        let mut copy = self.table;
+        let span = name_words(out, words, &mut copy);
+        write_spread(&mut self.table, span, numbers);
     }
 
     fn judge<W: Write>(&self, out: &mut W, name: &[u8], words: &[u8]) -> io::Result<()> {
-        let mut table = self.table.clone()?;
-        script::words(out, words, &mut table)?;
+        let mut table = self.table;
+        name_words(out, words, &mut table);
         let sound = soundness::sound(script::lent(&table, self.lent));
         out.write_all(name)?;
         writeln!(out, ": {}", if sound { "sound" } else { "unsound" })
     }
 }
 
+// Writes what a list of words says into a table, and names that say nothing out, as far as they can be written.
+fn name_words<W: Write>(out: &mut W, words: &[u8], table: &mut [u32]) -> Span {
+    script::words(words, table, |name| {
+        let _ = out.write_all(b"unknown: ");
+        let _ = out.write_all(name);
+    })
+}
+
 // Writes a value into the named word of each record from one to another.
-fn write_spread(table: &mut [u32], span: Span, numbers: &[u32]) {
-    let from = script::word(numbers, 0);
-    let to = script::word(numbers, 1);
+fn write_spread(table: &mut [u32], span: Span, numbers: [u32; 4]) {
+    let [from, to, first, step] = numbers;
     let records = to.checked_sub(from).map_or(0, |more| more.wrapping_add(1));
     let mut address = span.first;
-    let mut value = script::word(numbers, 2);
+    let mut value = first;
     for _ in 0..records {
         script::put(table, address, value);
         address = address.wrapping_add(span.stride);
-        value = value.wrapping_add(script::word(numbers, 3));
+        value = value.wrapping_add(step);
     }
 }
 
-fn try_tables<W: Write>(alloc: Global, text: &[u8], out: &mut W) -> io::Result<()> {
+fn try_tables<W: Write>(text: &[u8], out: &mut W) -> io::Result<()> {
     let mut trial = Trial {
-        alloc,
-        table: script::zeros(alloc)?,
+        table: script::zeros(),
         lent: 0,
     };
     for entry in script::entries(text).filter_map(Entry::parse) {
@@ -117,7 +127,12 @@ fn try_tables<W: Write>(alloc: Global, text: &[u8], out: &mut W) -> io::Result<(
     Ok(())
 }
 
-fn main(rt: HostRuntime) -> io::Result<()> {
+fn read_and_try(rt: &HostRuntime) -> io::Result<()> {
     let text = script::read(rt.alloc(), rt.reader())?;
-    try_tables(rt.alloc(), &text, &mut io::writer(&rt))
+    try_tables(&text, &mut io::writer(rt))
+}
+
+// Ends well also where reading or writing failed: what stands in the output is what was tried.
+fn main(rt: HostRuntime) {
+    let _ = read_and_try(&rt);
 }

@@ -1,7 +1,6 @@
-use Rattle.std.specs.Prelude.{ℕ, ◌+◌, ◌-◌, ◌*◌, ◌==◌, if◌then◌else◌, List, length, slice_index, take}
+use Rattle.std.specs.Prelude.{ℕ, ◌+◌, ◌-◌, ◌*◌, ◌==◌, if◌then◌else◌, List, length, slice_index}
 use Rattle.std.specs.List.{list_any}
 use Rattle.layout.specs.declared.TheConstants.{HEADER_SIZE, CORE_STRIDE, PROCESS_STRIDE, CHANNEL_STRIDE, HEADER_CORES, HEADER_PROCESSES, HEADER_CHANNELS}
-use Rattle.script.specs.declared.TheConstants.{WORDS}
 use Rattle.script.specs.Numbers.{numbers_of}
 
 -- how many words a table of these sizes has
@@ -22,4 +21,4 @@ length_of text numbers =
 
 -- the length that a text says
 abbrev pub length_said : List ℕ → ℕ
-length_said text = length_of text (take WORDS (numbers_of text))
+length_said text = length_of text (numbers_of text)

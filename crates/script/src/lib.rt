@@ -11,9 +11,7 @@
 // A text is bytes, as it is written out: a name need not be UTF-8.
 #![tactic(auto)]
 
-ghost use Rattle.std.specs.Prelude.{◌≡◌, IfOk, replicate, slice_index, slice_set, take};
-
-use std::alloc::{AllocError, Global};
+ghost use Rattle.std.specs.Prelude.{◌≡◌, replicate, slice_index, slice_set, take};
 
 mod kind;
 mod list;
@@ -29,10 +27,10 @@ pub use text::{Parts, TEXT_SIZE, entries, find, read};
 pub const WORDS: usize = 16384;
 
 // A table of zeros, with room for every table that is tried.
-pub fn zeros(alloc: Global) -> Result<Vec<u32>, AllocError>
-    ensures { IfOk result (λ t. t.items ≡ replicate WORDS 0) }
+pub fn zeros() -> [u32; WORDS]
+    ensures { result ≡ replicate WORDS 0 }
 {
-    Ok(vec![in alloc; 0; WORDS]?)
+    [0; WORDS]
 }
 
 // The word at an index, or 0 past the end.
@@ -62,29 +60,32 @@ pub fn lent(t: &[u32], size: usize) -> &[u32]
 #[cfg(test)]
 mod tests {
     use super::*;
+    use std::io::Write;
     use std::test::Fail;
 
     #[test]
     fn a_table_is_filled_by_name(rt: HostRuntime) -> Result<(), Fail> {
-        let mut table = zeros(rt.alloc())?;
-        let mut out = Vec::new(rt.alloc());
+        let mut table = zeros();
+        let mut unknown = Vec::new(rt.alloc());
         let list = b"header cores 1 2, process 2 first-guard 7 8 # 9\n core 0 mark 3, core x";
-        let span = words(&mut out, list, &mut table)?;
+        let span = words(list, &mut table, |name| {
+            let _ = unknown.write_all(name);
+        });
         for (at, value) in [(0, 1), (1, 2), (60, 7), (61, 8), (15, 3), (16383, 0)] {
             assert_eq!(rt; word(&table, at), value, "at {at}");
         }
         assert_eq!(rt; span.stride, 16);
-        assert_eq!(rt; out.as_slice(), b"unknown: x".as_slice());
+        assert_eq!(rt; unknown.as_slice(), b"x".as_slice());
         Ok(())
     }
 
     #[test]
     fn numbers_are_read(rt: HostRuntime) -> Result<(), Fail> {
         let text = read(rt.alloc(), b"1 2 1 -3 # 4\n4294967299".as_slice())?;
-        let read = numbers(rt.alloc(), &text)?;
-        assert_eq!(rt; read.as_slice(), [1, 2, 1, 3, 3].as_slice());
-        assert_eq!(rt; length(rt.alloc(), &text)?, 8 + 16 + 48 + 4 - 3);
-        assert_eq!(rt; length(rt.alloc(), b"none")?, 0);
+        let mut out = [0; 6];
+        assert_eq!(rt; numbers(&text, &mut out), [1, 2, 1, 3, 3].as_slice());
+        assert_eq!(rt; length(&text), 8 + 16 + 48 + 4 - 3);
+        assert_eq!(rt; length(b"none"), 0);
         Ok(())
     }
 }

@@ -2,16 +2,14 @@ use crate::kind::Kind;
 use crate::number::value;
 use crate::put;
 use crate::text::Parts;
-use std::io;
-use std::io::Write;
 
-// A word whose name says nothing is taken to stand so far into its record, past every record's end.
+// A word whose name says nothing is taken to stand so far into its record, past every record's end: what a list with one writes stays.
 const NO_WORD: usize = 65535;
 
 // A separator with a NUL right after it separates nothing.
 const NUL: u8 = 0;
 
-// An index as an address, modulo two to the 32.
+// An index as an address, modulo two to the 32: std has no conversion that wraps, and what a list past every table writes stays.
 fn address(at: usize) -> u32 {
     (at % (1 << 32)) as u32
 }
@@ -42,16 +40,16 @@ enum Place {
     Record(Record),
 }
 
-// A list of words while it is read: the table that is written, and where names that say nothing go.
+// A list of words while it is read: the table that is written, and what is done with a name that says nothing.
 #[derive(Drop)]
-struct List<'a, W> {
+struct List<'a, F> {
     table: &'a mut [u32],
-    out: &'a mut W,
+    unknown: F,
     place: Place,
     span: Span,
 }
 
-impl<W: Write> List<'_, W> {
+impl<F: FnMut(&[u8])> List<'_, F> {
     // A number: a value, or the record's; the first number after the end of a record says nothing.
     fn number(&mut self, n: u32) {
         let place = self.place;
@@ -94,8 +92,10 @@ impl<W: Write> List<'_, W> {
         });
     }
 
-    // A name, which is written out where it says nothing.
-    fn name(&mut self, name: &[u8]) -> io::Result<()> {
+    // A name, which is given to the caller where it says nothing.
+    fn name(&mut self, name: &[u8])
+        requires { (state : F) (name : _) → F.pre state name }
+    {
         let known = match self.place {
             Place::Record(record) => {
                 let offset = record.kind.word(name);
@@ -108,40 +108,39 @@ impl<W: Write> List<'_, W> {
                 kind.is_some()
             }
         };
-        if known {
-            return Ok(());
+        if !known {
+            (self.unknown)(name);
         }
-        self.out.write_all(b"unknown: ")?;
-        self.out.write_all(name)
     }
 
     // One more piece of the list.
-    fn piece(&mut self, piece: &[u8]) -> io::Result<()> {
+    fn piece(&mut self, piece: &[u8])
+        requires { (state : F) (name : _) → F.pre state name }
+    {
         match piece {
-            [] | b"to" | b"step" => Ok(()),
-            [b'0'..=b'9', ..] => {
-                self.number(leading_number(piece));
-                Ok(())
-            }
+            [] | b"to" | b"step" => {}
+            [b'0'..=b'9', ..] => self.number(leading_number(piece)),
             _ => self.name(piece),
         }
     }
 
     // What stands up to a comma or the end of the line: one record.
-    fn pieces(&mut self, pieces: &[u8]) -> io::Result<()> {
+    fn pieces(&mut self, pieces: &[u8])
+        requires { (state : F) (name : _) → F.pre state name }
+    {
         for piece in Parts::new(pieces, b' ', NUL) {
-            self.piece(piece)?;
+            self.piece(piece);
         }
         self.place = Place::Ended;
-        Ok(())
     }
 
-    fn line(&mut self, line: &[u8]) -> io::Result<()> {
+    fn line(&mut self, line: &[u8])
+        requires { (state : F) (name : _) → F.pre state name }
+    {
         for pieces in Parts::new(before_comment(line), b',', NUL) {
-            self.pieces(pieces)?;
+            self.pieces(pieces);
         }
         self.place = Place::Ended;
-        Ok(())
     }
 }
 
@@ -150,7 +149,7 @@ fn leading_number(piece: &[u8]) -> u32 {
     value(piece.split(|b| !b.is_ascii_digit()).next().unwrap_or(piece))
 }
 
-// A line up to its comment, which begins at a `#` where a piece would.
+// A line up to its comment, which begins at a `#` where a piece would. A loop, as `position` sees a byte alone, and not the one before it.
 fn before_comment(line: &[u8]) -> &[u8] {
     let mut begins = true;
     for (at, b) in line.iter().enumerate() {
@@ -162,8 +161,10 @@ fn before_comment(line: &[u8]) -> &[u8] {
     line
 }
 
-// Writes what a list of words says into a table, and names that say nothing out; says which words it names.
-pub fn words<W: Write>(out: &mut W, text: &[u8], table: &mut [u32]) -> io::Result<Span> {
+// Writes what a list of words says into a table, and calls `unknown` with each name that says nothing; says which words it names.
+pub fn words<F: FnMut(&[u8])>(text: &[u8], table: &mut [u32], unknown: F) -> Span
+    requires { (state : F) (name : _) → F.pre state name }
+{
     // before any record values go to the header's first words
     let span = Span {
         first: 0,
@@ -172,12 +173,12 @@ pub fn words<W: Write>(out: &mut W, text: &[u8], table: &mut [u32]) -> io::Resul
     };
     let mut list = List {
         table,
-        out,
+        unknown,
         place: Place::Values,
         span,
     };
     for line in Parts::new(text, b'\n', NUL) {
-        list.line(line)?;
+        list.line(line);
     }
-    Ok(list.span)
+    list.span
 }

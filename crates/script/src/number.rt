@@ -1,10 +1,9 @@
-ghost use Rattle.std.specs.Prelude.{◌≡◌, ◌==◌, ◌+◌, ◌*◌, ◌%◌, ◌^◌, IfOk, position, take};
+ghost use Rattle.std.specs.Prelude.{◌≡◌, ◌==◌, ◌+◌, ◌*◌, ◌%◌, ◌^◌, length, position, take};
 ghost use Rattle.script.specs.Numbers.{decimal_value, line_before_comment, numbers_of};
 ghost use Rattle.script.specs.Room.{length_said};
 
 use crate::kind::room;
-use crate::{WORDS, word};
-use std::alloc::{AllocError, Global};
+use crate::word;
 
 // The number with one more decimal digit, whose value is the lower half of its byte.
 fn with_digit(n: u32, digit: u8) -> u32
@@ -36,31 +35,37 @@ fn before_comment(line: &[u8]) -> &[u8]
     }
 }
 
-// The numbers of a text, as many as a table has words.
-pub fn numbers(alloc: Global, s: &[u8]) -> Result<Vec<u32>, AllocError>
-    ensures { IfOk result (λ numbers. numbers.items ≡ take WORDS (numbers_of s.now)) }
+// The numbers of a text, as many as `out` has room for, which are written into it.
+pub fn numbers<'a>(s: &[u8], out: &'a mut [u32]) -> &'a [u32]
+    ensures { result.now ≡ take (length out.old) (numbers_of s.now) }
 {
-    s.split(|b| *b == b'\n')
+    let found = s
+        .split(|b| *b == b'\n')
         .flat_map(|line| before_comment(line).split(|b| !b.is_ascii_digit()))
         .filter(|digits| !digits.is_empty())
-        .map(|digits| value(digits))
-        .take(WORDS)
-        .collect(alloc)
+        .map(|digits| value(digits));
+    let mut count = 0;
+    for number in found.take(out.len()) {
+        out[count] = number;
+        count += 1;
+    }
+    &out[..count]
 }
 
 // The length that an entry says: that of a table of sizes K, N, M, and D words more, or less where a `-` stands in it; of no number, 0.
-pub fn length(alloc: Global, s: &[u8]) -> Result<usize, AllocError>
-    ensures { IfOk result (λ size. size ≡ length_said s.now) }
+pub fn length(s: &[u8]) -> usize
+    ensures { result ≡ length_said s.now }
 {
-    let numbers = numbers(alloc, s)?;
+    let mut room_for_four = [0; 4];
+    let numbers = numbers(s, &mut room_for_four);
     if numbers.is_empty() {
-        return Ok(0);
+        return 0;
     }
-    let words = room(word(&numbers, 0), word(&numbers, 1), word(&numbers, 2));
-    let difference = word(&numbers, 3) as usize;
+    let words = room(word(numbers, 0), word(numbers, 1), word(numbers, 2));
+    let difference = word(numbers, 3) as usize;
     if s.contains(&b'-') {
-        Ok(words.saturating_sub(difference))
+        words.saturating_sub(difference)
     } else {
-        Ok(words + difference)
+        words + difference
     }
 }

@@ -18,7 +18,7 @@ pub fn read<R: Read + Drop>(alloc: Global, reader: R) -> io::Result<Vec<u8>>
     Ok(text)
 }
 
-// Where b first stands with no `unless` right after it.
+// Where b first stands with no `unless` right after it. A loop, as `position` sees a byte alone, and not the one after it.
 pub fn find(s: &[u8], b: u8, unless: u8) -> Option<usize>
     ensures { MatchOption result ((at : ℕ) → ¬ StandsAlone s.now b unless at) (λ at. IsFirst s.now b unless at) }
 {

@@ -18,7 +18,8 @@
 ghost use Rattle.std.specs.Prelude.{◌≡◌, drop};
 ghost use Rattle.try_calls.specs.Made.{IsMade};
 
-use std::alloc::{AllocError, Global};
+use script::Span;
+use std::alloc::Global;
 use std::io;
 use std::io::{Read, Write};
 
@@ -81,7 +82,7 @@ fn from(numbers: &[u32], n: usize) -> &[u32]
     numbers.get(n..).unwrap_or(&[])
 }
 
-// Makes a call with its numbers, of which each that is missing is 0.
+// Makes a call with its numbers, of which each that is missing is 0. A match, as the calls are closed, and each takes other numbers.
 fn make(call: Call, numbers: &[u32], table: &mut [u32], answer: &mut [u32]) -> u32
     ensures { IsMade call numbers.now (record { table = table.old; answer = answer.old }) result
         (record { table = table.new; answer = answer.new }) }
@@ -102,8 +103,16 @@ fn make(call: Call, numbers: &[u32], table: &mut [u32], answer: &mut [u32]) -> u
     }
 }
 
-// What no call writes into the answer words.
+// Words that no call writes as an answer, so that it can be seen whether one wrote any.
 const NO_ANSWER: [u32; 4] = [99; 4];
+
+// Writes what a list of words says into a table, and names that say nothing out, as far as they can be written.
+fn name_words<W: Write>(out: &mut W, words: &[u8], table: &mut [u32]) -> Span {
+    script::words(words, table, |name| {
+        let _ = out.write_all(b"unknown: ");
+        let _ = out.write_all(name);
+    })
+}
 
 fn write_words<W: Write>(out: &mut W, words: &[u32]) -> io::Result<()> {
     for word in words {
@@ -115,26 +124,24 @@ fn write_words<W: Write>(out: &mut W, words: &[u32]) -> io::Result<()> {
 // The table that the calls are made on, and what of it is lent.
 #[derive(Drop)]
 struct Bench {
-    alloc: Global,
-    table: Vec<u32>,
+    table: [u32; script::WORDS],
     lent: Lent,
 }
 
 impl Bench {
-    fn new(alloc: Global) -> Result<Bench, AllocError> {
-        Ok(Bench {
-            alloc,
-            table: script::zeros(alloc)?,
+    fn new() -> Bench {
+        Bench {
+            table: script::zeros(),
             lent: Lent {
                 table: 0,
                 answer: answers::ANSWER_SIZE,
             },
-        })
+        }
     }
 
     // The call's number, the answer words where they were written, and whether the table is as it was.
     fn try_call<W: Write>(&mut self, out: &mut W, call: Call, numbers: &[u32]) -> io::Result<()> {
-        let before = self.table.clone()?;
+        let before = self.table;
         let mut answer = NO_ANSWER;
         let table_size = self.lent.table.min(self.table.len());
         let answer_size = self.lent.answer.min(answer.len());
@@ -155,25 +162,30 @@ impl Bench {
     }
 
     fn show<W: Write>(&mut self, out: &mut W, words: &[u8]) -> io::Result<()> {
-        let span = script::words(out, words, &mut self.table)?;
-        let end = (span.at as usize + 1).min(self.table.len());
+        let span = name_words(out, words, &mut self.table);
+        let named = from(
+            script::lent(&self.table, span.at as usize + 1),
+            span.first as usize,
+        );
         write!(out, ":")?;
-        write_words(out, self.table.get(span.first as usize..end).unwrap_or(&[]))
+        write_words(out, named)
     }
 
     // Does what an entry asks for. The words that it names stand after the first blank that no blank follows.
+    // A match, as the orders are closed, and each asks for something else.
     fn perform<W: Write>(&mut self, out: &mut W, entry: &[u8]) -> io::Result<()> {
-        let numbers = script::numbers(self.alloc, entry)?;
+        let mut room = script::zeros();
+        let numbers = script::numbers(entry, &mut room);
         let words = &entry[script::find(entry, b' ', b' ').unwrap_or(entry.len())..];
         match Order::of(entry) {
             Order::Heading => {}
-            Order::Length => self.lent.table = script::length(self.alloc, entry)?,
-            Order::Answers => self.lent.answer = script::word(&numbers, 0) as usize,
+            Order::Length => self.lent.table = script::length(entry),
+            Order::Answers => self.lent.answer = script::word(numbers, 0) as usize,
             Order::Write => {
-                script::words(out, words, &mut self.table)?;
+                name_words(out, words, &mut self.table);
             }
             Order::Show => self.show(out, words)?,
-            Order::Call(call) => self.try_call(out, call, &numbers)?,
+            Order::Call(call) => self.try_call(out, call, numbers)?,
         }
         Ok(())
     }
@@ -190,10 +202,15 @@ fn try_entry<W: Write>(bench: &mut Bench, out: &mut W, entry: &[u8]) -> io::Resu
     writeln!(out)
 }
 
-// Does the entries of the input.
-pub fn run<R: Read + Drop, W: Write>(alloc: Global, input: R, out: &mut W) -> io::Result<()> {
+// Does the entries of the standard input, as far as it can be read and the standard output written.
+pub fn run(rt: HostRuntime) {
+    let _ = run_on(rt.alloc(), rt.reader(), &mut io::writer(&rt));
+}
+
+// Does the entries of an input.
+pub fn run_on<R: Read + Drop, W: Write>(alloc: Global, input: R, out: &mut W) -> io::Result<()> {
     let text = script::read(alloc, input)?;
-    let mut bench = Bench::new(alloc)?;
+    let mut bench = Bench::new();
     for entry in script::entries(&text) {
         try_entry(&mut bench, out, entry)?;
     }
@@ -209,7 +226,7 @@ mod tests {
     fn a_table_is_built(rt: HostRuntime) -> Result<(), Fail> {
         let mut out = Vec::new(rt.alloc());
         let text = b"length 1 2 1\nset-up 1 2 1 1 2\nstep 0\nshow core 0 runs";
-        run(rt.alloc(), text.as_slice(), &mut out)?;
+        run_on(rt.alloc(), text.as_slice(), &mut out)?;
         let given = b"length 1 2 1\nset-up 1 2 1 1 2: 0\nstep 0: 2 0 0 0\nshow core 0 runs: 0\n";
         assert_eq!(rt; out.as_slice(), given.as_slice());
         Ok(())
