@@ -43,7 +43,7 @@ pub fn wait_step(t: &mut [u32], core: Core, p: Process) -> Reply
     }
 }
 
-// The guard that the choice has come to is ready: the first such is kept.
+// The guard that the choice has come to is ready: the first such is kept. (0 in the word is none, here and in finish.)
 fn keep_first(t: &mut [u32], p: Process)
     requires { HasProcess t.old p.sizes.cores p.number }
     ensures { t.new ≡ kept_table t.old p.sizes.cores p.number }

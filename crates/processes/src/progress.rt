@@ -10,7 +10,7 @@ use layout::progress::{Choice, Exchange, Outcome, Progress, Way};
 use records::zeros;
 use table::{Channel, Process, Record, within};
 
-// Process p stands at the end f (writer or reader) of channel c.
+// Process p stands at the end f (writer or reader) of channel c. (f is the word of that end, as every word goes by its number.)
 fn end_fits(t: &[u32], p: Process, f: usize, c: u32) -> bool
     requires sized { IsOfSizes t.now p.sizes }
     requires end { f < channel_stride }
@@ -55,7 +55,7 @@ fn channel_part(t: &[u32], p: Process, progress: Progress, c: u32) -> bool
     }
 }
 
-// g guards from the word `from` on, 1 to 8, and zeros behind them.
+// g guards from the word `from` on, 1 to 8, and zeros behind them. (By place and count, as fitting has them.)
 fn guards_stand(t: &[u32], p: Process, g: u32, from: usize) -> bool
     requires sized { IsOfSizes t.now p.sizes }
     requires reaches { from + guard_places ≤ length t.now }

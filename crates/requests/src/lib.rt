@@ -28,7 +28,7 @@ pub enum Request<'a> {
     End,
 }
 
-// The running process, if it has nothing in hand.
+// The running process, if it has nothing in hand. (0 in the core's word is nobody.)
 fn requester(t: &[u32], sizes: Sizes, core: Core) -> Option<Process>
     requires { HasRunning t.now sizes.cores core.0 }
     ensures { result ≡ found sizes (asker t.now sizes.cores core.0) }
@@ -44,7 +44,7 @@ fn requester(t: &[u32], sizes: Sizes, core: Core) -> Option<Process>
     }
 }
 
-// Process p may use the end f of channel c, its writer's or its reader's.
+// Process p may use the end f of channel c, its writer's or its reader's. (f is the word of that end, as every word goes by its number.)
 fn check_end(t: &[u32], p: Process, f: usize, c: u32) -> Result<(), Refusal>
     requires of_channel { f < channel_stride }
     requires lies_in { room p.sizes.cores p.sizes.processes p.sizes.channels ≤ length t.now }
@@ -97,7 +97,8 @@ fn receive(t: &mut [u32], core: Core, p: Process, c: u32) -> Reply
     Ok(Answer::Taken(p.number, c))
 }
 
-// Process p may choose over these guards, which are tested one by one.
+// Process p may choose over these guards, which are tested one by one. (The soundness check goes over guards too, but gives no reason, and
+// looks for what repeats behind a guard.)
 fn check_guards(t: &[u32], p: Process, guards: &[u32]) -> Result<(), Refusal>
     requires { room p.sizes.cores p.sizes.processes p.sizes.channels ≤ length t.now }
     ensures { result ≡ check_guards (check_end t.now p.sizes p.number channel_reader) [] guards.now }

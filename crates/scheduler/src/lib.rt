@@ -77,7 +77,7 @@ fn load_step(t: &mut [u32], sizes: Sizes, core: Core) -> Reply
     Ok(Answer::Moved)
 }
 
-// Nothing runs and there is no task: store, take, load, or nothing to do.
+// Nothing runs and there is no task: store, take, load, or nothing to do. (0 in the core's word is nobody.)
 #[tactic(auto, using(crate::proofs::Known::free_core, crate::proofs::Load::idle_does))]
 pub fn schedule(t: &mut [u32], sizes: Sizes, core: Core) -> Reply
     requires { Free t.old sizes.cores sizes.processes core.0 no_task }

@@ -76,7 +76,7 @@ pub fn look_step(t: &mut [u32], core: Core, p: Process, way: Way, c: u32) -> Rep
     }
 }
 
-// The outcome of send and of receive.
+// The outcome of send and of receive. (A function, and no `From`: an outcome is no other form of a way.)
 fn due(way: Way) -> Outcome
     ensures { outcome_number result ≡ due_of (which way) }
 {
