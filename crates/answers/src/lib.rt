@@ -1,7 +1,7 @@
 // What a call answers, or why it is refused: the number returned and the answer words (docs/NUMBERS.md).
 #![tactic(auto)]
 
-ghost use Rattle.std.specs.Prelude.{◌≡◌, T, IfOk};
+ghost use Rattle.std.specs.Prelude.{◌≡◌, T, IfOk, ltb, if◌then◌else◌};
 ghost use Rattle.rules.specs.Numbers.{reply, refusal_number, number_of, written, lends, well_lent};
 ghost use Rattle.answers.specs.Said.{answered, because, said, told};
 
@@ -105,12 +105,23 @@ pub fn lent_well(answer: &[u32]) -> bool
     answer.len() == ANSWER_SIZE
 }
 
+// The words are written where the number is of an accepted call, below 20; a refusal writes nothing. (Any number and words: what no call
+// says can be told too.)
+pub fn tell(answer: &mut [u32], number: u32, words: [u32; ANSWER_SIZE])
+    requires { T (well_lent (lends answer.old)) }
+    ensures { lends answer.new ≡ (if ltb number 20 then lends words else lends answer.old) }
+{
+    if number < 20 {
+        answer.copy_from_slice(&words);
+    }
+}
+
 // An accepted call's words are written; a refused one writes nothing.
-pub fn tell(answer: &mut [u32], r: Reply)
+pub fn tell_reply(answer: &mut [u32], r: Reply)
     requires { IfOk r (λ _. T (well_lent (lends answer.old))) }
     ensures { lends answer.new ≡ told (said r) (lends answer.old) }
 {
     if let Ok(given) = r {
-        answer.copy_from_slice(&given.words());
+        tell(answer, given.number(), given.words());
     }
 }

@@ -6,8 +6,7 @@
 // A name in brackets is a heading, written as it stands.
 #![tactic(auto)]
 
-use script::Span;
-use std::io;
+use script::{Span, StandardOutput};
 use std::io::Write;
 
 // What an entry asks for; what stands after its name goes with it.
@@ -49,14 +48,14 @@ struct Trial {
 
 impl Trial {
     // A match, as the kinds of entries are closed, and each asks for something else.
-    fn perform<W: Write>(&mut self, out: &mut W, entry: Entry<'_>) -> io::Result<()> {
+    fn perform<W: Write>(&mut self, out: &mut W, entry: Entry<'_>) -> std::io::Result<()> {
         match entry {
             Entry::Heading(heading) => {
                 out.write_all(heading)?;
-                writeln!(out)
+                out.write_all(b"\n")
             }
             Entry::Table(words) => {
-                self.begin(out, words);
+                self.begin(words);
                 Ok(())
             }
             Entry::Length(sizes) => {
@@ -64,43 +63,39 @@ impl Trial {
                 Ok(())
             }
             Entry::Spread(words) => {
-                self.spread(out, words);
+                self.spread(words);
                 Ok(())
             }
             Entry::Verdict { name, words } => self.judge(out, name, words),
         }
     }
 
-    fn begin<W: Write>(&mut self, out: &mut W, words: &[u8]) {
+    fn begin(&mut self, words: &[u8]) {
         self.table = script::zeros();
-        name_words(out, words, &mut self.table);
+        script::words(words, &mut self.table);
         self.lent = script::table_length(&self.table);
     }
 
     // The entry's numbers are the two records, the first value and the step; the word is found in a copy, into which they are written too.
-    fn spread<W: Write>(&mut self, out: &mut W, words: &[u8]) {
+    fn spread(&mut self, words: &[u8]) {
         let mut numbers = [0; 4];
         script::numbers(words, &mut numbers);
         let mut copy = self.table;
-        let span = name_words(out, words, &mut copy);
+        let span = script::words(words, &mut copy);
         write_spread(&mut self.table, span, numbers);
     }
 
-    fn judge<W: Write>(&self, out: &mut W, name: &[u8], words: &[u8]) -> io::Result<()> {
+    fn judge<W: Write>(&self, out: &mut W, name: &[u8], words: &[u8]) -> std::io::Result<()> {
         let mut table = self.table;
-        name_words(out, words, &mut table);
+        script::words(words, &mut table);
         let sound = soundness::sound(script::lent(&table, self.lent));
         out.write_all(name)?;
-        writeln!(out, ": {}", if sound { "sound" } else { "unsound" })
+        if sound {
+            out.write_all(b": sound\n")
+        } else {
+            out.write_all(b": unsound\n")
+        }
     }
-}
-
-// Writes what a list of words says into a table, and names that say nothing out, as far as they can be written.
-fn name_words<W: Write>(out: &mut W, words: &[u8], table: &mut [u32]) -> Span {
-    script::words(words, table, |name| {
-        let _ = out.write_all(b"unknown: ");
-        let _ = out.write_all(name);
-    })
 }
 
 // Writes a value into the named word of each record from one to another.
@@ -116,7 +111,7 @@ fn write_spread(table: &mut [u32], span: Span, numbers: [u32; 4]) {
     }
 }
 
-fn try_tables<W: Write>(text: &[u8], out: &mut W) -> io::Result<()> {
+fn try_tables<W: Write>(text: &[u8], out: &mut W) -> std::io::Result<()> {
     let mut trial = Trial {
         table: script::zeros(),
         lent: 0,
@@ -127,12 +122,9 @@ fn try_tables<W: Write>(text: &[u8], out: &mut W) -> io::Result<()> {
     Ok(())
 }
 
-fn read_and_try(rt: &HostRuntime) -> io::Result<()> {
-    let text = script::read(rt.alloc(), rt.reader())?;
-    try_tables(&text, &mut io::writer(rt))
-}
-
-// Ends well also where reading or writing failed: what stands in the output is what was tried.
-fn main(rt: HostRuntime) {
-    let _ = read_and_try(&rt);
+// Does what can be read of the input, also before a read that fails, and writes what can be written.
+fn main() {
+    let mut room = io::large_buffer();
+    let size = io::read_full(0, &mut room);
+    let _ = try_tables(&room[..size], &mut StandardOutput);
 }

@@ -55,7 +55,7 @@ fn call(table: &mut [u32], answer: &mut [u32], core: u32, ask: Ask<'_>) -> u32
     ensures { Meets (call table.old (lends answer.old) core (asks ask.entry)) (gives result (lends answer.new) table.new) }
 {
     let reply = reply_to(table, answer, core, ask);
-    answers::tell(answer, reply);
+    answers::tell_reply(answer, reply);
     answers::number(reply)
 }
 

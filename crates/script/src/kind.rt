@@ -4,7 +4,7 @@ ghost use Rattle.script.specs.Room.{room_of, length_by_header};
 use crate::word;
 
 // How many words a table of these sizes has, also of sizes that none may have: `table::Sizes::room` is of allowed ones.
-pub(crate) fn room(cores: u32, processes: u32, channels: u32) -> usize
+pub fn room(cores: u32, processes: u32, channels: u32) -> usize
     ensures { result ≡ room_of cores processes channels }
 {
     layout::HEADER_SIZE

@@ -16,11 +16,13 @@ ghost use Rattle.std.specs.Prelude.{◌≡◌, replicate, slice_index, slice_set
 mod kind;
 mod list;
 mod number;
+mod standard;
 mod text;
 
-pub use kind::table_length;
-pub use list::{Span, words};
+pub use kind::{room, table_length};
+pub use list::{Span, words, words_with};
 pub use number::{length, numbers};
+pub use standard::StandardOutput;
 pub use text::{Parts, TEXT_SIZE, entries, find, read};
 
 // How many words a table has that is tried, however few of them are lent.
@@ -68,7 +70,7 @@ mod tests {
         let mut table = zeros();
         let mut unknown = Vec::new(rt.alloc());
         let list = b"header cores 1 2, process 2 first-guard 7 8 # 9\n core 0 mark 3, core x";
-        let span = words(list, &mut table, |name| {
+        let span = words_with(list, &mut table, |name| {
             let _ = unknown.write_all(name);
         });
         for (at, value) in [(0, 1), (1, 2), (60, 7), (61, 8), (15, 3), (16383, 0)] {

@@ -161,8 +161,16 @@ fn before_comment(line: &[u8]) -> &[u8] {
     line
 }
 
-// Writes what a list of words says into a table, and calls `unknown` with each name that says nothing; says which words it names.
-pub fn words<F: FnMut(&[u8])>(text: &[u8], table: &mut [u32], unknown: F) -> Span
+// Writes what a list of words says into a table, and names that say nothing out; says which words it names.
+pub fn words(text: &[u8], table: &mut [u32]) -> Span {
+    words_with(text, table, |name| {
+        io::write_all(1, b"unknown: ");
+        io::write_all(1, name);
+    })
+}
+
+// The same, with what is done with a name that says nothing.
+pub fn words_with<F: FnMut(&[u8])>(text: &[u8], table: &mut [u32], unknown: F) -> Span
     requires { (state : F) (name : _) → F.pre state name }
 {
     // before any record values go to the header's first words

@@ -1,6 +1,6 @@
 // Cases 5 to 11 and 13 of the bench sheet, and calls that pass through every stage, task and scheduler step: `stdin` has them.
 #![tactic(auto)]
 
-fn main(rt: HostRuntime) {
-    try_calls::run(rt);
+fn main() {
+    try_calls::run();
 }

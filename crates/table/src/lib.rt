@@ -183,10 +183,12 @@ fn zero_words(t: &mut [u32], at: usize, n: usize)
     t[at..at + n].fill(0);
 }
 
-// The words from `at` on become these.
+// The words from `at` on become these. (A loop: `copy_from_slice` calls memmove, which the archive for C is not to need from outside.)
 fn set_words(t: &mut [u32], at: usize, words: &[u32])
     requires { at + length words.now ≤ length t.old }
     ensures { t.new ≡ sets t.old at words.now }
 {
-    t[at..at + words.len()].copy_from_slice(words);
+    for (i, word) in words.iter().enumerate() {
+        t[at + i] = *word;
+    }
 }

@@ -18,9 +18,8 @@
 ghost use Rattle.std.specs.Prelude.{◌≡◌, drop};
 ghost use Rattle.try_calls.specs.Made.{IsMade};
 
-use script::Span;
+use script::{Span, StandardOutput};
 use std::alloc::Global;
-use std::io;
 use std::io::{Read, Write};
 
 // What an entry asks for.
@@ -108,13 +107,13 @@ const NO_ANSWER: [u32; 4] = [99; 4];
 
 // Writes what a list of words says into a table, and names that say nothing out, as far as they can be written.
 fn name_words<W: Write>(out: &mut W, words: &[u8], table: &mut [u32]) -> Span {
-    script::words(words, table, |name| {
+    script::words_with(words, table, |name| {
         let _ = out.write_all(b"unknown: ");
         let _ = out.write_all(name);
     })
 }
 
-fn write_words<W: Write>(out: &mut W, words: &[u32]) -> io::Result<()> {
+fn write_words<W: Write>(out: &mut W, words: &[u32]) -> std::io::Result<()> {
     for word in words {
         write!(out, " {word}")?;
     }
@@ -140,7 +139,12 @@ impl Bench {
     }
 
     // The call's number, the answer words where they were written, and whether the table is as it was.
-    fn try_call<W: Write>(&mut self, out: &mut W, call: Call, numbers: &[u32]) -> io::Result<()> {
+    fn try_call<W: Write>(
+        &mut self,
+        out: &mut W,
+        call: Call,
+        numbers: &[u32],
+    ) -> std::io::Result<()> {
         let before = self.table;
         let mut answer = NO_ANSWER;
         let table_size = self.lent.table.min(self.table.len());
@@ -161,7 +165,7 @@ impl Bench {
         Ok(())
     }
 
-    fn show<W: Write>(&mut self, out: &mut W, words: &[u8]) -> io::Result<()> {
+    fn show<W: Write>(&mut self, out: &mut W, words: &[u8]) -> std::io::Result<()> {
         let span = name_words(out, words, &mut self.table);
         let named = from(
             script::lent(&self.table, span.at as usize + 1),
@@ -173,7 +177,7 @@ impl Bench {
 
     // Does what an entry asks for. The words that it names stand after the first blank that no blank follows.
     // A match, as the orders are closed, and each asks for something else.
-    fn perform<W: Write>(&mut self, out: &mut W, entry: &[u8]) -> io::Result<()> {
+    fn perform<W: Write>(&mut self, out: &mut W, entry: &[u8]) -> std::io::Result<()> {
         let mut room = script::zeros();
         let numbers = script::numbers(entry, &mut room);
         let words = &entry[script::find(entry, b' ', b' ').unwrap_or(entry.len())..];
@@ -192,29 +196,39 @@ impl Bench {
 }
 
 // Writes the first line of an entry, and what it gave.
-fn try_entry<W: Write>(bench: &mut Bench, out: &mut W, entry: &[u8]) -> io::Result<()> {
+fn try_entry<W: Write>(bench: &mut Bench, out: &mut W, entry: &[u8]) -> std::io::Result<()> {
     if entry.is_empty() || entry.starts_with(b"#") {
         return Ok(());
     }
     let line = entry.split(|b| *b == b'\n').next().unwrap_or(entry);
     out.write_all(line)?;
     bench.perform(out, entry)?;
-    writeln!(out)
+    out.write_all(b"\n")
 }
 
-// Does the entries of the standard input, as far as it can be read and the standard output written.
-pub fn run(rt: HostRuntime) {
-    let _ = run_on(rt.alloc(), rt.reader(), &mut io::writer(&rt));
-}
-
-// Does the entries of an input.
-pub fn run_on<R: Read + Drop, W: Write>(alloc: Global, input: R, out: &mut W) -> io::Result<()> {
-    let text = script::read(alloc, input)?;
+fn try_entries<W: Write>(text: &[u8], out: &mut W) -> std::io::Result<()> {
     let mut bench = Bench::new();
-    for entry in script::entries(&text) {
+    for entry in script::entries(text) {
         try_entry(&mut bench, out, entry)?;
     }
     Ok(())
+}
+
+// Does the entries of the standard input, also those before a read that fails, and writes what can be written.
+pub fn run() {
+    let mut room = io::large_buffer();
+    let size = io::read_full(0, &mut room);
+    let _ = try_entries(&room[..size], &mut StandardOutput);
+}
+
+// Does the entries of an input, and stops at what can't be read or written.
+pub fn run_on<R: Read + Drop, W: Write>(
+    alloc: Global,
+    input: R,
+    out: &mut W,
+) -> std::io::Result<()> {
+    let text = script::read(alloc, input)?;
+    try_entries(&text, out)
 }
 
 #[cfg(test)]

@@ -3,4 +3,4 @@ use Rattle.fontarisca.proofs.Told.{told_call}
 use Rattle.fontarisca.proofs.call.Goals as goal
 
 pub returns : goal.returns
-returns c = rw (c.number.ensures, c.tell.ensures) (told_call _ _ _ _ _ _ c.reply_to-reply.ensures)
+returns c = rw (c.number.ensures, c.tell_reply.ensures) (told_call _ _ _ _ _ _ c.reply_to-reply.ensures)
