@@ -98,7 +98,8 @@ fn receive(t: &mut [u32], core: Core, p: Process, c: u32) -> Reply
     Ok(Answer::Taken(p.number, c))
 }
 
-// The guard c stands among these. (`any`, which is inlined; a call of `contains` for each guard takes a choice of eight 1.3 times the time.)
+// The guard c stands among these. (`any`, which is inlined; with a call of `contains` for each guard a choice of eight takes 1.3 times the
+// time, the check aside.)
 fn stands_among(guards: &[u32], c: u32) -> bool
     ensures { result ≡ list_any (λ guard. guard == c) guards.now }
 {

@@ -155,7 +155,8 @@ impl Bench {
             &mut self.table[..table_size],
             &mut answer[..answer_size],
         );
-        write!(out, ": {number}")?;
+        out.write_all(b":")?;
+        write!(out, " {number}")?;
         if answer != NO_ANSWER {
             write_words(out, script::lent(&answer, answers::ANSWER_SIZE))?;
         }
@@ -221,7 +222,7 @@ pub fn run() {
     let _ = try_entries(&room[..size], &mut StandardOutput);
 }
 
-// Does the entries of an input, and stops at what can't be read or written.
+// Does the entries of an input; stops at what can't be read or written, but for a name that says nothing, and gives the error back.
 pub fn run_on<R: Read + Drop, W: Write>(
     alloc: Global,
     input: R,
